@@ -27,4 +27,3 @@ negative (fin s m e) = s
 unfoldable pub totalLess : Float → Float → Bool
 unfolding isNan lt eq negative
 totalLess x y = not (isNan x) && (isNan y || (lt x y || (eq x y && (negative x && not (negative y)))))
-
