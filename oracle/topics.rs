@@ -3,6 +3,7 @@
 use crate::{random, value::Value, Run, Topic};
 
 mod floats;
+mod known;
 mod patterns;
 
-pub const ALL: &[Topic] = &[floats::TOPIC, patterns::TOPIC];
+pub const ALL: &[Topic] = &[known::TOPIC, floats::TOPIC, patterns::TOPIC];

@@ -32,7 +32,7 @@ macro_rules! plain {
         }
     )*};
 }
-plain!(bool, u8, u32, i32, u64, i64, usize);
+plain!(bool, u8, u32, i32, u64, i64, usize, String);
 
 macro_rules! tuples {
     ($(($($name:ident $at:tt),*))*) => {$(
