@@ -11,9 +11,12 @@ unsafe extern "C" {
     safe fn vuzgari_compare_to_f32(x: f64) -> f32;
     pub safe fn vuzgari_compare_floor32(x: f32) -> f32;
     safe fn vuzgari_compare_abs64(x: f64) -> f64;
+    pub safe fn vuzgari_compare_is_finite32(x: f32) -> bool;
     safe fn vuzgari_compare_max32(a: f32, b: f32) -> f32;
     safe fn vuzgari_compare_max64(a: f64, b: f64) -> f64;
+    safe fn vuzgari_compare_min32(a: f32, b: f32) -> f32;
     safe fn vuzgari_compare_total_less32(a: f32, b: f32) -> bool;
+    safe fn vuzgari_compare_total_less64(a: f64, b: f64) -> bool;
 }
 
 /// Inputs of each kind in the gate.
@@ -25,9 +28,12 @@ fn compare(run: &mut Run) {
     one(run, "to_f32", &specials64(), Random::f64, vuzgari_compare_to_f32, |x| x as f32);
     one(run, "floor32", &specials32(), Random::f32, vuzgari_compare_floor32, f32::floor);
     one(run, "abs64", &specials64(), Random::f64, vuzgari_compare_abs64, f64::abs);
+    one(run, "is_finite32", &specials32(), Random::f32, vuzgari_compare_is_finite32, f32::is_finite);
     extreme(run, "max32", &specials32(), Random::f32, vuzgari_compare_max32, f32::max);
     extreme(run, "max64", &specials64(), Random::f64, vuzgari_compare_max64, f64::max);
+    extreme(run, "min32", &specials32(), Random::f32, vuzgari_compare_min32, f32::min);
     order(run, "total_less32", &specials32(), Random::f32, vuzgari_compare_total_less32, |a, b| a.total_cmp(&b).is_lt(), f32::NAN);
+    order(run, "total_less64", &specials64(), Random::f64, vuzgari_compare_total_less64, |a, b| a.total_cmp(&b).is_lt(), f64::NAN);
 }
 
 /// A helper of one argument.

@@ -7,6 +7,7 @@ pub const TOPIC: Topic = Topic { name: "patterns", gate: false, compare, store: 
 fn compare(run: &mut Run) {
     every(run, "sqrt32", vuzgari_compare_sqrt32, f32::sqrt);
     every(run, "floor32", vuzgari_compare_floor32, f32::floor);
+    every(run, "is_finite32", vuzgari_compare_is_finite32, f32::is_finite);
 }
 
 fn every<R: Value>(run: &mut Run, what: &str, ours: extern "C" fn(f32) -> R, theirs: fn(f32) -> R) {

@@ -1,7 +1,7 @@
 // The float helpers.
 ghost use mathlib.Core.Path.{_≡_};
 ghost use lib.Ieee.{binary32, binary64};
-ghost use Rattle.ieee.specs.Order.{larger, magnitude, totalLess};
+ghost use Rattle.ieee.specs.Order.{larger, smaller, magnitude, finite, totalLess};
 ghost use Rattle.ieee.specs.Floor.{floor};
 ghost use Rattle.ieee.specs.Convert.{convert};
 ghost use Rattle.ieee.specs.Sqrt.{sqrt};
@@ -56,8 +56,29 @@ pub extern "C" fn vuzgari_compare_max64(a: f64, b: f64) -> f64
 }
 
 #[no_mangle]
+pub extern "C" fn vuzgari_compare_min32(a: f32, b: f32) -> f32
+    ensures { λ r. ⌜ r ≡ smaller a b ⌝ }
+{
+    float::min32(a, b)
+}
+
+#[no_mangle]
+pub extern "C" fn vuzgari_compare_is_finite32(x: f32) -> bool
+    ensures { λ r. ⌜ r ≡ finite x ⌝ }
+{
+    float::is_finite32(x)
+}
+
+#[no_mangle]
 pub extern "C" fn vuzgari_compare_total_less32(a: f32, b: f32) -> bool
     ensures { λ r. ⌜ r ≡ totalLess a b ⌝ }
 {
     float::total_less32(a, b)
+}
+
+#[no_mangle]
+pub extern "C" fn vuzgari_compare_total_less64(a: f64, b: f64) -> bool
+    ensures { λ r. ⌜ r ≡ totalLess a b ⌝ }
+{
+    float::total_less64(a, b)
 }
