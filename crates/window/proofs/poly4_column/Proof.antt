@@ -9,7 +9,7 @@ use lib.IntN.{ℤ}
 use lib.Signed.{mag}
 use Rattle.laws.proofs.Machine.{held, held-of, each²-at}
 use Rattle.window.specs.Window.{pixel}
-use Rattle.window.specs.Passes.{Small, poly4Of, poly4Column}
+use Rattle.window.specs.Passes.{Small, poly4Of}
 use Rattle.window.proofs.poly4_column.Statement.{statement}
 use Rattle.window.proofs.poly4_column.Tie as tie
 
@@ -22,9 +22,8 @@ still g s = subst (Small 4080) (sym (held-of g)) s
 poly4-same : {a b c d a′ b′ c′ d′ : ℤ} → a ≡ a′ → b ≡ b′ → c ≡ c′ → d ≡ d′ → poly4Of a b c d ≡ poly4Of a′ b′ c′ d′
 poly4-same p q r s = rw (p, q, r, s)
 
-same : (m : List (List ℤ)) (x : ℕ) → In (pixel m x 0) → In (pixel m x 1) → In (pixel m x 2) → In (pixel m x 3)
-    → poly4Of (held (pixel m x 0)) (held (pixel m x 1)) (held (pixel m x 2)) (held (pixel m x 3)) ≡ poly4Column m x
-same m x p q r s = poly4-same (held-of p) (held-of q) (held-of r) (held-of s)
+same : (a b c d : ℤ) → In a → In b → In c → In d → poly4Of (held a) (held b) (held c) (held d) ≡ poly4Of a b c d
+same a b c d p q r s = poly4-same (held-of {z = a} p) (held-of {z = b} q) (held-of {z = c} r) (held-of {z = d} s)
 
 low : (y : ℕ) (c : tie.After-poly4-arg4)
     → Small 4080 (pixel (c .before .before .before .before .args .t1) (c .before .before .before .before .args .x) y)
@@ -77,9 +76,10 @@ poly4-requires c κs =
 
 returns : tie.Need-returns
 returns c =
-    let s = c .before .before .before .before .before in
+    let m = c .before .before .before .before .before .args .t1 in
+    let x = c .before .before .before .before .before .args .x in
     c .poly4 .ensures
-    ∙ same (s .args .t1) (s .args .x) (c .before .before .before .before .poly4-arg .given) (c .before .before .before .poly4-arg2 .given)
+    ∙ same (pixel m x 0) (pixel m x 1) (pixel m x 2) (pixel m x 3) (c .before .before .before .before .poly4-arg .given) (c .before .before .before .poly4-arg2 .given)
       (c .before .before .poly4-arg3 .given) (c .before .poly4-arg4 .given)
 
 pub poly4-column-spec : {M : Type 1} → statement M
