@@ -1,5 +1,9 @@
 -- Laws of the formats and of those definitions.
 pub mod Laws
+pub mod Numbers
+pub mod Grid
+pub mod Distance
+pub mod RoundsToEven
 pub mod Wraps
 pub mod Reading
 pub mod Narrowing
