@@ -4,7 +4,7 @@ use mathlib.Core.Path.{_≡_, refl, sym, ap, _∙_, subst}
 use mathlib.Core.Logic.{_⊎_, inl, inr}
 use mathlib.Core.Bool.{Bool, true, false, not, cond, Bool·beq, false≢true}
 use Prim.Native.Nat.{ℕ, zero, suc, _+_, _-_, _*_, _/_, _%_, _^_, _≤_, _<_, Ordering, Ordering·lt, Ordering·eq, Ordering·gt}
-use native.Mathlib.Nat.{le-refl, le-trans, le-of-eq, le-of-lt, le-of-suc-le-suc, lt-of-lt-of-le, lt-of-le-of-lt, lt-of-not-le, not-le-of-lt, lt-irrefl, mul-assoc, mul-comm, mul-left-comm, mul-le-mul, mul-le-mul-left, mul-le-mul-right, le-of-mul-le-mul-right, mul-pos, zero-mul, eq-of-mul-eq-mul-right, eq-zero-or-pos, pow-succ'}
+use native.Mathlib.Nat.{le-refl, le-trans, le-of-eq, le-of-lt, le-of-suc-le-suc, le-antisymm, lt-of-lt-of-le, lt-of-le-of-lt, lt-of-not-le, not-le-of-lt, lt-irrefl, mul-assoc, mul-comm, mul-left-comm, mul-le-mul, mul-le-mul-left, mul-le-mul-right, le-of-mul-le-mul-right, mul-pos, zero-mul, eq-of-mul-eq-mul-right, eq-zero-or-pos, pow-succ'}
 use native.Mathlib.Omega.{arith}
 use lib.Dec.{T, ltb, ltb→lt, nltb→le, lit<, lit≤}
 use lib.IntN.{ℤ}
@@ -15,9 +15,9 @@ use lib.Ieee.Nearest.{nearest-ge}
 use lib.Ieee.Exact.{HasValue, units-val}
 use Rattle.ieee.specs.Order.{negative, finite}
 use Rattle.ieee.specs.Rounding.{Exact, AtLeast, AtMost, Near, AsNear, Overflows, RoundTiesToEven}
-use Rattle.ieee.proofs.Laws.{units-over, finite-bits, Lead, edge}
+use Rattle.ieee.proofs.Laws.{units-over, value-bits, Lead, edge}
 use Rattle.ieee.proofs.Numbers.{Proper, trichotomy, least-down, most-up, meet, least?, not-least, not-most, least-scale, least-unscale}
-use Rattle.ieee.proofs.Grid.{Grid, zero-on-grid, next-up, Placed, on-grid, same-value}
+use Rattle.ieee.proofs.Grid.{Grid, zero-on-grid, next-up, Placed, on-grid, same-value, value-unique}
 use Rattle.ieee.proofs.Distance.{Middle, as-near, middle-same, middle-other}
 
 -- ---- where X is cut
@@ -64,6 +64,12 @@ unfolding finite
 value-finite nan s a c v = v
 value-finite (inf t) s a c v = v
 value-finite (fin t m e) s a c v = tt
+
+value-negative : (x : Float) (s : Bool) (a c : ℕ) → HasValue x s a c → negative x ≡ s
+unfolding negative
+value-negative nan s a c v = absurd v
+value-negative (inf t) s a c v = absurd v
+value-negative (fin t m e) s a c v = v .0
 
 finite-fin : (s : Bool) (m : ℕ) (e : ℤ) → T (finite (fin s m e))
 unfolding finite
@@ -188,8 +194,11 @@ module _ (f : Format) (X : Exact) (P : Proper X) (q k : ℕ) (o : Ordering) (C :
         go r (inl s) = rw (s .0) (λ h. most-up X (L * 2) (over-q (next h)) (s .1), λ h. least-down X (L * 2) (le-of-lt (under-q h)) lo2)
         go r (inr s) = rw (s .0) (λ h. most-up X (L * 2) (over-suc h) (not-least X (2 * suc q * K) (L * 2) hi2), λ h. least-down X (L * 2) (under-suc (below h)) (s .1))
 
-    -- ---- and where another is as near, r is even
-    pub tied : (Y ≡ r * K → ⊥) → Middle X L Y (r * K) → r % 2 ≡ 0
+    -- ---- where another is as near, X is the half and r is even
+    turn : (a b : ℕ) → a + b ≡ b + a
+    turn a b = omega arith
+
+    tied : (Y ≡ r * K → ⊥) → Middle X L Y (r * K) → (r % 2 ≡ 0) × AtLeast X H (L * 2) × AtMost X H (L * 2)
     tied = go o (C .half)
       where
         even : (q : ℕ) → (q + q % 2) % 2 ≡ 0
@@ -198,21 +207,52 @@ module _ (f : Format) (X : Exact) (P : Proper X) (q k : ℕ) (o : Ordering) (C :
         none : (o : Ordering) → (Y < nearest q o * K → ⊥) → (nearest q o * K < Y → ⊥) → (Y ≡ nearest q o * K → ⊥) → ⊥
         none o a b n = elim (trichotomy Y (nearest q o * K)) [ inl l ↦ a l | inr (inl e) ↦ n e | inr (inr g) ↦ b g ]
 
-        turn : (a b : ℕ) → a + b ≡ b + a
-        turn a b = omega arith
-
-        go : (o : Ordering) → Half o X H (L * 2) → (Y ≡ nearest q o * K → ⊥) → Middle X L Y (nearest q o * K) → nearest q o % 2 ≡ 0
+        go : (o : Ordering) → Half o X H (L * 2) → (Y ≡ nearest q o * K → ⊥) → Middle X L Y (nearest q o * K) → (nearest q o % 2 ≡ 0) × AtLeast X H (L * 2) × AtMost X H (L * 2)
         go Ordering·lt h n M = absurd
             (none Ordering·lt
             (λ l. lt-irrefl (q * K + Y) (lt-of-lt-of-le (under-q l) (meet X (L * 2) P lo2 (subst (λ (x : ℕ). AtMost X x (L * 2)) (turn Y (q * K)) (M .0 l)))))
             (λ l. h (least-down X (L * 2) (over-q (next l)) (subst (λ (x : ℕ). AtLeast X x (L * 2)) (turn Y (q * K)) (M .1 l))))
             n)
-        go Ordering·eq h n M = even q
+        go Ordering·eq h n M = (even q, h .0, h .1)
         go Ordering·gt h n M = absurd
             (none Ordering·gt
             (λ l. h (most-up X (L * 2) (under-suc (below l)) (subst (λ (x : ℕ). AtMost X x (L * 2)) (turn Y (suc q * K)) (M .0 l))))
             (λ l. hi2 (least-down X (L * 2) (over-suc l) (subst (λ (x : ℕ). AtLeast X x (L * 2)) (turn Y (suc q * K)) (M .1 l))))
             n)
+
+    -- the other one is r's neighbour, which is odd
+    across : (Y ≡ r * K → ⊥) → Middle X L Y (r * K) → Y + r * K ≡ H
+    across n M =
+        let t = tied n M in
+        elim (trichotomy Y (r * K)) [
+          | inl l ↦ le-antisymm (meet X (L * 2) P (subst (λ (x : ℕ). AtLeast X x (L * 2)) (turn (r * K) Y) (middle .1 l)) (t .2)) (meet X (L * 2) P (t .1) (M .0 l))
+          | inr (inl e) ↦ absurd (n e)
+          | inr (inr g) ↦ le-antisymm (meet X (L * 2) P (M .1 g) (t .2)) (meet X (L * 2) P (t .1) (subst (λ (x : ℕ). AtMost X x (L * 2)) (turn (r * K) Y) (middle .0 g)))
+        ]
+
+    neighbour : (Y ≡ r * K → ⊥) → Middle X L Y (r * K) → (n : ℕ) × (Y ≡ n * K) × (q ≤ n) × (n ≤ suc q) × (n % 2 ≡ 1)
+    neighbour n M =
+        let e = tied n M .0 in
+        let l = nearest-ge q o in
+        let h = nearest-le q o in
+        (2 * q + 1 - r, place (2 * q + 1 - r) r q K Y (sum q r h) (across n M), low-end q r h, high-end q r l, last-digit q r h e)
+      where
+        sum : (q r : ℕ) → r ≤ suc q → 2 * q + 1 - r + r ≡ 2 * q + 1
+        sum q r h = omega arith
+
+        low-end : (q r : ℕ) → r ≤ suc q → q ≤ 2 * q + 1 - r
+        low-end q r h = omega arith
+
+        high-end : (q r : ℕ) → q ≤ r → 2 * q + 1 - r ≤ suc q
+        high-end q r h = omega arith
+
+        last-digit : (q r : ℕ) → r ≤ suc q → r % 2 ≡ 0 → (2 * q + 1 - r) % 2 ≡ 1
+        last-digit q r h e = omega arith
+
+        place : (n r q K Y : ℕ) → n + r ≡ 2 * q + 1 → Y + r * K ≡ (2 * q + 1) * K → Y ≡ n * K
+        place n r q K Y e h =
+            let p : (n + r) * K ≡ (2 * q + 1) * K = ap (λ (x : ℕ). x * K) e in
+            omega arith
 
   -- ---- the infinity
   abbrev a : ℕ
@@ -323,13 +363,13 @@ module _ (f : Format) (X : Exact) (P : Proper X) (q k : ℕ) (o : Ordering) (C :
           full : (q r a : ℕ) → r ≡ suc q → a ≤ r → q < a → q + 1 ≡ a
           full q r a e g h = omega arith
 
-  -- ---- roundTiesToEven
-  r-lead : Lead f r k
-  r-lead = elim (C .lead) [ inl z ↦ inl z | inr l ↦ inr (le-trans l (mul-le-mul-left 2 (nearest-ge q o))) ]
-
-  parity : (s : Bool) → T (finite (units f s r k)) → toBits f (units f s r k) % 2 ≡ r % 2
-  parity s F = ap (λ (x : ℕ). x % 2) (finite-bits f r k r-le r-lead s (units-small f s r k F)) ∙ go f s k r
+  -- ---- the last digit of a value's pattern is that of its significand
+  parity : (n : ℕ) → q ≤ n → n ≤ a → (y : Float) (s : Bool) → HasValue y s (n * K) L → toBits f y % 2 ≡ n % 2
+  parity n lo hi y s v = ap (λ (x : ℕ). x % 2) (value-bits f n k hi lead y s v) ∙ go f s k n
     where
+      lead : Lead f n k
+      lead = elim (C .lead) [ inl z ↦ inl z | inr l ↦ inr (le-trans l (mul-le-mul-left 2 lo)) ]
+
       go : (f : Format) (s : Bool) (k r : ℕ) → (cond s (top f) 0 + (k * hid f + r)) % 2 ≡ r % 2
       go binary32 true k r = omega arith
       go binary32 false k r = omega arith
@@ -351,7 +391,7 @@ module _ (f : Format) (X : Exact) (P : Proper X) (q k : ℕ) (o : Ordering) (C :
         as-near s X P L (pow-pos (low f)) u (fin b m e) (r * K) (p .size) (value F) (p .sign) (p .value) (middle (p .size) (p .grid)) (middle 0 (zero-on-grid (prec f)))
 
     even-is : T (finite u) → (y : Float) → T (fits f y) → T (finite y) → (y ≡ u → ⊥) → AsNear s X y u → toBits f u % 2 ≡ 0
-    even-is F y G N n A = parity s F ∙ go (Bool·beq s (p .sign)) refl
+    even-is F y G N n A = parity r (nearest-ge q o) r-le u s (value F) ∙ go (Bool·beq s (p .sign)) refl
       where
         p : Placed f y
         p = on-grid f y G N
@@ -366,7 +406,7 @@ module _ (f : Format) (X : Exact) (P : Proper X) (q k : ℕ) (o : Ordering) (C :
         signs false false h = refl
 
         same : HasValue y s (p .size) L → r % 2 ≡ 0
-        same w = tied (p .size) (p .grid) (λ (e : p .size ≡ r * K). n (same-value f y u s (r * K) G (units-fits f s r k r-le) (subst (λ (x : ℕ). HasValue y s x L) e w) v)) (middle-same s X P L (pow-pos (low f)) u y (r * K) (p .size) v A w)
+        same w = tied (p .size) (p .grid) (λ (e : p .size ≡ r * K). n (same-value f y u s (r * K) G (units-fits f s r k r-le) (subst (λ (x : ℕ). HasValue y s x L) e w) v)) (middle-same s X P L (pow-pos (low f)) u y (r * K) (p .size) v A w) .0
 
         zero-even : 0 ≡ r * K → r % 2 ≡ 0
         zero-even z = ap (λ (x : ℕ). x % 2) (eq-of-mul-eq-mul-right K (pow-pos k) r 0 (sym z ∙ sym (zero-mul K)))
@@ -376,7 +416,7 @@ module _ (f : Format) (X : Exact) (P : Proper X) (q k : ℕ) (o : Ordering) (C :
             let M : Middle X L 0 (r * K) = middle-other s X P L (pow-pos (low f)) u y (r * K) (p .size) v A (p .sign) h (p .value) in
             elim (eq-zero-or-pos (r * K)) [
               | inl z ↦ zero-even (sym z)
-              | inr l ↦ tied 0 (zero-on-grid (prec f)) (λ (e : 0 ≡ r * K). lt-irrefl 0 (subst (λ (x : ℕ). 0 < x) (sym e) l)) M
+              | inr l ↦ tied 0 (zero-on-grid (prec f)) (λ (e : 0 ≡ r * K). lt-irrefl 0 (subst (λ (x : ℕ). 0 < x) (sym e) l)) M .0
             ]
 
         go : (b : Bool) → Bool·beq s (p .sign) ≡ b → r % 2 ≡ 0
@@ -392,3 +432,40 @@ module _ (f : Format) (X : Exact) (P : Proper X) (q k : ℕ) (o : Ordering) (C :
       nearest = nearest-is;
       even = even-is;
     }
+
+    -- ---- and nothing else is
+    module _ (y : Float) (A : RoundTiesToEven f s X y) where
+      inside : (Overflows f X → ⊥) → y ≡ u
+      inside n = go (decide Y (r * K))
+        where
+          F : T (finite y)
+          F = A .under n
+
+          G : T (finite u)
+          G = rounds .under n
+
+          p : Placed f y
+          p = on-grid f y (A .held) F
+
+          Y : ℕ
+          Y = p .size
+
+          w : HasValue y s Y L
+          w = subst (λ (b : Bool). HasValue y b Y L) (sym (value-negative y (p .sign) Y L (p .value)) ∙ A .sign) (p .value)
+
+          decide : (a b : ℕ) → (a ≡ b) ⊎ (a ≡ b → ⊥)
+          decide a b = elim (trichotomy a b) [ inl l ↦ inr (λ (e : a ≡ b). lt-irrefl b (subst (λ (x : ℕ). x < b) e l)) | inr (inl e) ↦ inl e | inr (inr g) ↦ inr (λ (e : a ≡ b). lt-irrefl b (subst (λ (x : ℕ). b < x) e g)) ]
+
+          go : (Y ≡ r * K) ⊎ (Y ≡ r * K → ⊥) → y ≡ u
+          go (inl e) = same-value f y u s (r * K) (A .held) (units-fits f s r k r-le) (subst (λ (x : ℕ). HasValue y s x L) e w) (value G)
+          go (inr d) =
+              let t = neighbour Y (p .grid) d (middle-same s X P L (pow-pos (low f)) u y (r * K) Y (value G) (A .nearest F u (rounds .held)) w) in
+              let even : toBits f y % 2 ≡ 0 = A .even F u (rounds .held) G (λ (e : u ≡ y). d (value-unique y s Y (r * K) L w (subst (λ (x : Float). HasValue x s (r * K) L) e (value G)))) (rounds .nearest G y (A .held)) in
+              let odd : toBits f y % 2 ≡ 1 = parity (t .0) (t .2) (le-trans (t .3) (C .few)) y s (subst (λ (x : ℕ). HasValue y s x L) (t .1) w) ∙ t .4 in
+              absurd (no (toBits f y % 2) even odd)
+            where
+              no : (x : ℕ) → x ≡ 0 → x ≡ 1 → ⊥
+              no x a b = omega arith
+
+      pub only : y ≡ u
+      only = elim (least? X (2 ^ emax f * (2 ^ suc (prec f) - 1)) (2 ^ prec f)) [ inl h ↦ A .over h ∙ sym (rounds .over h) | inr n ↦ inside n ]
