@@ -4,7 +4,7 @@ use mathlib.Core.Path.{_≡_, refl, sym, ap, _∙_, subst}
 use mathlib.Core.Logic.{_⊎_, inl, inr}
 use mathlib.Core.Bool.{Bool, true, false, _&&_}
 use Prim.Native.Nat.{ℕ, zero, suc, _+_, _-_, _*_, _/_, _%_, _^_, _≤_, _<_}
-use native.Mathlib.Nat.{le-trans, le-of-eq, le-of-lt, lt-of-le-of-lt, mul-assoc, mul-one, one-mul, mul-le-mul-right, lt-of-mul-lt-mul-right, eq-of-mul-eq-mul-right, pow-succ'}
+use native.Mathlib.Nat.{le-trans, le-of-eq, le-of-lt, lt-of-le-of-lt, mul-assoc, mul-one, one-mul, mul-le-mul-right, lt-of-mul-lt-mul-right, eq-of-mul-eq-mul-right, zero-mul, mul-pos, mul-right-comm, pow-succ'}
 use native.Mathlib.Omega.{arith}
 use lib.Dec.{T, ltb, leb, eqb, ltb→lt, leb→le, eqb→eq}
 use lib.IntN.{ℤ, pos, negsuc}
@@ -76,9 +76,10 @@ module _ (f : Format) (s : Bool) where
       leb→le (down e) (2 ^ low f) (and-r (A && B) C (and-l (A && B && C) (ltb (suc m * up e) (2 ^ suc (emax f) * down e)) F))
 
   -- below 2 ^ (emax + 1)
-  pub in-range : (m : ℕ) (e : ℤ) → T (fits f (fin s (suc m) e)) → suc m * up e < 2 ^ suc (emax f) * down e
+  pub in-range : (m : ℕ) (e : ℤ) → T (fits f (fin s m e)) → m * up e < 2 ^ suc (emax f) * down e
   unfolding fits
-  in-range m e F =
+  in-range zero e F = rw (zero-mul (up e)) (mul-pos (pow-pos (suc (emax f))) (down-pos e))
+  in-range (suc m) e F =
       let A = eqb (suc m % 2) 1 in
       let B = ltb (suc m) (2 ^ prec f) in
       let C = leb (down e) (2 ^ low f) in
@@ -118,3 +119,13 @@ pub value-unique : (x : Float) (s : Bool) (a b c : ℕ) → HasValue x s a c →
 value-unique nan s a b c v w = absurd v
 value-unique (inf t) s a b c v w = absurd v
 value-unique (fin t m e) s a b c v w = eq-of-mul-eq-mul-right (down e) (down-pos e) a b (sym (v .1) ∙ w .1)
+
+-- the same size as another fraction
+pub rescale : (x : Float) (s : Bool) (w l num den : ℕ) → 0 < l → num * l ≡ w * den → HasValue x s w l → HasValue x s num den
+rescale nan s w l num den p h v = v
+rescale (inf t) s w l num den p h v = v
+rescale (fin t m e) s w l num den p h v = (
+  v .0,
+  eq-of-mul-eq-mul-right l p (m * up e * den) (num * down e)
+      (mul-right-comm (m * up e) den l ∙ ap (λ (x : ℕ). x * den) (v .1) ∙ mul-right-comm w (down e) den ∙ ap (λ (x : ℕ). x * down e) (sym h) ∙ mul-right-comm num l (down e)),
+)

@@ -4,6 +4,7 @@ pub mod Numbers
 pub mod Grid
 pub mod Distance
 pub mod RoundsToEven
+pub mod ConvertFormat
 pub mod Wraps
 pub mod Reading
 pub mod Narrowing

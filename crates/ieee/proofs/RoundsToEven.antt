@@ -71,7 +71,7 @@ value-negative nan s a c v = absurd v
 value-negative (inf t) s a c v = absurd v
 value-negative (fin t m e) s a c v = v .0
 
-finite-fin : (s : Bool) (m : ℕ) (e : ℤ) → T (finite (fin s m e))
+pub finite-fin : (s : Bool) (m : ℕ) (e : ℤ) → T (finite (fin s m e))
 unfolding finite
 finite-fin s m e = tt
 
