@@ -5,6 +5,7 @@ pub mod Grid
 pub mod Distance
 pub mod RoundsToEven
 pub mod ConvertFormat
+pub mod SquareRoot
 pub mod Wraps
 pub mod Reading
 pub mod Narrowing
