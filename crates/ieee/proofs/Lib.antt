@@ -6,6 +6,8 @@ pub mod Distance
 pub mod RoundsToEven
 pub mod ConvertFormat
 pub mod SquareRoot
+pub mod Comparing
+pub mod TotalOrder
 pub mod Wraps
 pub mod Reading
 pub mod Narrowing
