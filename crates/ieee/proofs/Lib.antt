@@ -8,6 +8,8 @@ pub mod ConvertFormat
 pub mod SquareRoot
 pub mod Comparing
 pub mod TotalOrder
+pub mod MaxMin
+pub mod Classes
 pub mod Wraps
 pub mod Reading
 pub mod Narrowing
