@@ -5,12 +5,12 @@ use mathlib.Core.Bool.{Bool, true, false, _&&_, _||_, Bool·beq}
 use Prim.Native.Nat.{ℕ, zero, suc, _+_, _*_, _≤_, _<_}
 use native.Mathlib.Nat.{mul-assoc, mul-comm, mul-left-comm, mul-right-comm, mul-pos, mul-lt-mul-of-pos-right, mul-le-mul-right, eq-of-mul-eq-mul-right, add-mul, zero-mul}
 use native.Mathlib.Omega.{arith}
-use lib.Dec.{T, ltb, eqb}
+use lib.Dec.{T, ltb, leb, eqb}
 use lib.IntN.{ℤ}
 use lib.Ieee.{Float, nan, inf, fin, up, down, below, level, lt, eq, le}
 use lib.Ieee.Fits.{down-pos}
 use lib.Ieee.Exact.{HasValue}
-use borrow.Author.Tests.{lt-ltb, le-ltb, eq-eqb, ne-eqb}
+use borrow.Author.Tests.{lt-ltb, le-ltb, le-leb, lt-leb, eq-eqb, ne-eqb, eqb-true}
 use Rattle.ieee.proofs.Numbers.{le-or-lt, trichotomy}
 
 -- ---- a common factor
@@ -72,3 +72,58 @@ eq-is (inf p) y s t a b d D v w = absurd v
 eq-is (fin p m e) nan s t a b d D v w = absurd w
 eq-is (fin p m e) (inf r) s t a b d D v w = absurd w
 eq-is (fin p m e) (fin r n g) s t a b d D v w = rw (v .0, w .0) (both s t a b d D m e n g (v .1) (w .1) (λ s a t b. level s a t b) level-scale)
+
+-- ---- ±a ≤ ±b, by the signs
+abbrev pub upTo : Bool → ℕ → Bool → ℕ → Bool
+upTo false a false b = leb a b
+upTo false a true b = eqb a 0 && eqb b 0
+upTo true a false b = true
+upTo true a true b = leb b a
+
+below-or-level : (s t : Bool) (a b : ℕ) → below s a t b || level s a t b ≡ upTo s a t b
+below-or-level false false a b = elim (trichotomy a b) [
+  | inl l ↦ rw (lt-ltb a b l, le-leb a b (omega arith))
+  | inr (inl e) ↦ rw (le-ltb a b (omega arith), eq-eqb a b e, le-leb a b (omega arith))
+  | inr (inr g) ↦ rw (le-ltb a b (omega arith), ne-eqb a b (λ (e : a ≡ b). more a b g e), lt-leb a b g)
+]
+  where
+    more : (a b : ℕ) → b < a → a ≡ b → ⊥
+    more a b g e = omega arith
+below-or-level true true a b = elim (trichotomy a b) [
+  | inl l ↦ rw (le-ltb b a (omega arith), ne-eqb a b (λ (e : a ≡ b). less a b l e), lt-leb b a l)
+  | inr (inl e) ↦ rw (le-ltb b a (omega arith), eq-eqb a b e, le-leb b a (omega arith))
+  | inr (inr g) ↦ rw (lt-ltb b a g, le-leb b a (omega arith))
+]
+  where
+    less : (a b : ℕ) → a < b → a ≡ b → ⊥
+    less a b l e = omega arith
+below-or-level true false a b = elim (le-or-lt (a + b) 0) [
+  | inl g ↦ rw (le-ltb 0 (a + b) g, eq-eqb a b (omega arith), eq-eqb a 0 (omega arith))
+  | inr l ↦ rw (lt-ltb 0 (a + b) l)
+]
+below-or-level false true a b = go (eqb a 0) refl
+  where
+    and-false : (t : Bool) → t && false ≡ false
+    and-false true = refl
+    and-false false = refl
+
+    go : (t : Bool) → eqb a 0 ≡ t → eqb a b && t ≡ t && eqb b 0
+    go true h = and-true (eqb a b) ∙ ap (λ (x : ℕ). eqb x b) (eqb-true a 0 h) ∙ swap b
+      where
+        and-true : (t : Bool) → t && true ≡ t
+        and-true true = refl
+        and-true false = refl
+
+        swap : (b : ℕ) → eqb 0 b ≡ eqb b 0
+        swap b = elim (le-or-lt b 0) [
+          | inl z ↦ eq-eqb 0 b (omega arith) ∙ sym (eq-eqb b 0 (omega arith))
+          | inr l ↦ ne-eqb 0 b (λ (e : 0 ≡ b). some b l (sym e)) ∙ sym (ne-eqb b 0 (some b l))
+        ]
+          where
+            some : (b : ℕ) → 0 < b → b ≡ 0 → ⊥
+            some b l e = omega arith
+    go false h = and-false (eqb a b)
+
+pub le-is : (x y : Float) (s t : Bool) (a b d : ℕ) → 0 < d → HasValue x s a d → HasValue y t b d → le x y ≡ upTo s a t b
+unfolding le
+le-is x y s t a b d D v w = rw (lt-is x y s t a b d D v w, eq-is x y s t a b d D v w) (below-or-level s t a b)

@@ -102,7 +102,7 @@ module _ (f : Format) (num den : ℕ) (D : 0 < den) where
   round-only s y A = only f (fraction num den) D q k (compare (n % u * 2) u) round-cut s y A ∙ sym (round-is f s num den)
 
 -- ---- a value that the format holds
-exact : (f : Format) (s : Bool) (m : ℕ) (e : ℤ) → T (fits f (fin s m e)) → round f s (m * up e) (down e) ≡ fin s m e
+pub exact : (f : Format) (s : Bool) (m : ℕ) (e : ℤ) → T (fits f (fin s m e)) → round f s (m * up e) (down e) ≡ fin s m e
 exact f s m e F =
     let p = on-grid f (fin s m e) F (finite-fin s m e) in
     let v : m * up e * 2 ^ low f ≡ p .size * down e = p .value .1 in

@@ -53,7 +53,7 @@ module _ (p k Y : ℕ) (G : Grid p Y) where
 
 -- ---- what `fits` says of a finite value
 module _ (f : Format) (s : Bool) where
-  few : (m : ℕ) (e : ℤ) → T (fits f (fin s m e)) → m < 2 ^ prec f
+  pub few : (m : ℕ) (e : ℤ) → T (fits f (fin s m e)) → m < 2 ^ prec f
   unfolding fits
   few zero e F = pow-pos (prec f)
   few (suc m) e F =

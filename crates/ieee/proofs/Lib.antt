@@ -10,6 +10,7 @@ pub mod Comparing
 pub mod TotalOrder
 pub mod MaxMin
 pub mod Classes
+pub mod TowardNegative
 pub mod Wraps
 pub mod Reading
 pub mod Narrowing

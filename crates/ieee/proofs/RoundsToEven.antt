@@ -65,7 +65,7 @@ value-finite nan s a c v = v
 value-finite (inf t) s a c v = v
 value-finite (fin t m e) s a c v = tt
 
-value-negative : (x : Float) (s : Bool) (a c : ℕ) → HasValue x s a c → negative x ≡ s
+pub value-negative : (x : Float) (s : Bool) (a c : ℕ) → HasValue x s a c → negative x ≡ s
 unfolding negative
 value-negative nan s a c v = absurd v
 value-negative (inf t) s a c v = absurd v
