@@ -11,7 +11,8 @@ use lib.Ieee.{Float, nan, inf, fin, up, down, below, level, lt, eq, le}
 use lib.Ieee.Fits.{down-pos}
 use lib.Ieee.Exact.{HasValue}
 use borrow.Author.Tests.{lt-ltb, le-ltb, le-leb, lt-leb, eq-eqb, ne-eqb, eqb-true}
-use Rattle.ieee.proofs.Numbers.{le-or-lt, trichotomy}
+use Rattle.ieee.proofs.Numbers.{trichotomy}
+use Rattle.ieee.proofs.Roots.{le-or-lt}
 
 -- ---- a common factor
 ltb-scale : (a b c : ℕ) → 0 < c → ltb (a * c) (b * c) ≡ ltb a b

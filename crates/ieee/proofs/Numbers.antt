@@ -8,16 +8,9 @@ use lib.Dec.{T, leb, leb→le, nleb→lt}
 use mathlib.Core.Bool.{Bool, true, false, not}
 use Rattle.ieee.specs.Sqrt.{root}
 use Rattle.ieee.specs.Rounding.{Exact, fraction, rootOf, AtLeast, AtMost}
-use Rattle.ieee.proofs.Roots.{root-is}
+use Rattle.ieee.proofs.Roots.{root-is, le-or-lt}
 
--- ---- the order of whole numbers, and of their squares
-pub le-or-lt : (a b : ℕ) → (a ≤ b) ⊎ (b < a)
-le-or-lt a b = go (leb a b) (leb→le a b) (nleb→lt a b)
-  where
-    go : (t : Bool) → (T t → a ≤ b) → (T (not t) → b < a) → (a ≤ b) ⊎ (b < a)
-    go true h k = inl (h tt)
-    go false h k = inr (k tt)
-
+-- ---- squares keep the order
 pub square-lt : (a b : ℕ) → a * a < b * b → a < b
 square-lt a b h = lt-of-not-le (λ (g : b ≤ a). lt-irrefl (a * a) (lt-of-lt-of-le h (mul-le-mul g g)))
 

@@ -15,7 +15,8 @@ use lib.Ieee.Positive.{num, den, den-pos}
 use lib.Ieee.Exact.{HasValue}
 use borrow.Author.Tests.{lt-ltb, le-ltb, ltb-true, ltb-false, eq-eqb, ne-eqb}
 use Rattle.ieee.specs.Order.{negative, finite, totalLess}
-use Rattle.ieee.proofs.Numbers.{le-or-lt, trichotomy}
+use Rattle.ieee.proofs.Numbers.{trichotomy}
+use Rattle.ieee.proofs.Roots.{le-or-lt}
 use Rattle.ieee.proofs.Wraps.{above-plain, below-plain}
 use Rattle.ieee.proofs.Comparing.{lt-is, eq-is}
 use Rattle.ieee.proofs.Grid.{Placed, on-grid, same-value, rescale}
