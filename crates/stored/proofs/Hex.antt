@@ -43,7 +43,8 @@ unfolding written
 read-more {l} {at} {n} {k} {d} r h e = record {
   low = omega arith;
   is = rw (add-one k, r .is, e);
-  below = rw (add-one k) (go (16 ^ k) (16 ^ suc k) (sixteens k) (r .below) (rw e (digit-below (getD l (at + k) 0)))) }
+  below = rw (add-one k) (go (16 ^ k) (16 ^ suc k) (sixteens k) (r .below) (rw e (digit-below (getD l (at + k) 0))));
+}
   where
     go : (p q : ℕ) → q ≡ 16 * p → n < p → d < 16 → n * 16 + d < q
     go p q s l f = omega arith

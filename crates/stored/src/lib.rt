@@ -4,6 +4,7 @@
 // and a line end. All lines of a list have the same number of columns. A capital letter stands for the same call as the small
 // one: lists keep answers there that were altered, to show that a wrong one is noticed.
 pub mod floats;
+
 use libc::STDOUT_FILENO;
 ghost use mathlib.Core.Path.{_≡_};
 ghost use mathlib.Core.Bool.{Bool, cond};

@@ -1,49 +1,36 @@
-use Rattle.stored.proofs.Answers.{few, judged}
+-- `stored::agrees` meets its contract: the columns read are the definition's (`judged`). Assumes nothing.
 use borrow.Author.Needs.{needs}
+use Rattle.stored.proofs.Answers.{few, judged}
 use Rattle.stored.proofs.agrees.Statement.{statement}
 use Rattle.stored.proofs.agrees.Tie as tie
-use Rattle.stored.proofs.agrees.Reads as reads
-use Rattle.stored.proofs.agrees.Lts as lts
-use Rattle.stored.proofs.column.Reads as column-reads
-use Rattle.stored.proofs.floats.answer.Reads as answer-reads
 
--- src/lib.rt:41:9
 returns : tie.Need-returns
 returns c = few _ _ _ (c .if1 .taken)
 
--- src/lib.rt:43:20
 shared-slice-read-answer : tie.Need-shared-slice-read-answer
 shared-slice-read-answer c = search needs
 
--- src/lib.rt:43:43
 add-column : tie.Need-add-column
 add-column c = search needs
 
--- src/lib.rt:43:30
 column-requires : tie.Need-column-requires
 column-requires c κs = search needs
 
--- src/lib.rt:43:65
 add-column-2 : tie.Need-add-column-2
 add-column-2 c = search needs
 
--- src/lib.rt:43:52
 column-requires-2 : tie.Need-column-requires-2
 column-requires-2 c κs = search needs
 
--- src/lib.rt:43:5
 answer-requires : tie.Need-answer-requires
 answer-requires c κs = search needs
 
--- src/lib.rt:43:91
 add-column-3 : tie.Need-add-column-3
 add-column-3 c = search needs
 
--- src/lib.rt:43:78
 column-requires-3 : tie.Need-column-requires-3
 column-requires-3 c κs = search needs
 
--- src/lib.rt:36:1
 returns-2 : tie.Need-returns-2
 returns-2 c = judged _ _ _ (c .before .before .before .before .before .if1 .left) (c .before .before .before .column .ensures) (c .before .before .column2 .ensures) (c .before .answer .ensures) (c .column3 .ensures)
 

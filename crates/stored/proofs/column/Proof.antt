@@ -1,14 +1,11 @@
+-- `stored::column` meets its contract. The loop's invariant: n is what the k digits read so far write (`Read`). Assumes nothing.
 use native.Mathlib.Omega.{arith}
 use mathlib.Core.Path.{subst, sym}
 use Prim.Native.Nat.{ℕ, _-_, _<_}
-use Rattle.stored.proofs.Hex.{Read, read-start, read-more, read-end, room, digit-below}
 use borrow.Author.Needs.{needs}
+use Rattle.stored.proofs.Hex.{Read, read-start, read-more, read-end, room, digit-below}
 use Rattle.stored.proofs.column.Statement.{statement}
 use Rattle.stored.proofs.column.Tie as tie
-use Rattle.stored.proofs.column.Reads as reads
-use Rattle.stored.proofs.column.Lts as lts
-use Rattle.stored.proofs.digit.Reads as digit-reads
-
 
 abbrev Inv-loop : tie.InvT-loop
 Inv-loop text at n₀ k₀ n k = Read text at n k
@@ -16,43 +13,33 @@ Inv-loop text at n₀ k₀ n k = Read text at n k
 abbrev μ-loop : tie.MeasureT-loop
 μ-loop text at n₀ k₀ n k = 16 - k
 
--- src/lib.rt:36:5
 loop-holds : tie.Need-loop-holds Inv-loop μ-loop
 loop-holds c = read-start _ _
 
--- src/lib.rt:37:13
 mul-n : tie.Need-mul-n Inv-loop μ-loop
 mul-n c = omega (arith, room _ _ 0 (c .loop-test .taken) (c .before .loop .inv .below) (omega arith))
 
--- src/lib.rt:37:33
 add-digit : tie.Need-add-digit Inv-loop μ-loop
 add-digit c = omega arith
 
--- src/lib.rt:37:28
 shared-slice-read-digit : tie.Need-shared-slice-read-digit Inv-loop μ-loop
 shared-slice-read-digit c = omega arith
 
--- src/lib.rt:37:22
 digit-requires : tie.Need-digit-requires Inv-loop μ-loop
 digit-requires c κs = search needs
 
--- src/lib.rt:37:13
 add-n : tie.Need-add-n Inv-loop μ-loop
 add-n c = record { fits = room _ _ _ (c .before .before .loop-test .taken) (c .before .before .before .loop .inv .below) (subst (λ (d : ℕ). d < 16) (sym (c .digit .ensures)) (digit-below _)) }
 
--- src/lib.rt:38:9
 add-k : tie.Need-add-k Inv-loop μ-loop
 add-k c = omega arith
 
--- src/lib.rt:36:5
 loop-less : tie.Need-loop-less Inv-loop μ-loop
 loop-less c = omega arith
 
--- src/lib.rt:36:5
 loop-again : tie.Need-loop-again Inv-loop μ-loop
 loop-again c = read-more (c .before .before .before .loop .inv) (c .before .before .loop-test .taken) (c .digit .ensures)
 
--- src/lib.rt:30:1
 returns : tie.Need-returns Inv-loop μ-loop
 returns c = read-end (c .before .loop .inv) (c .loop-test .left)
 

@@ -1,19 +1,14 @@
+-- `stored::count` meets its contract. The loop's invariant: n counts the hits among the first i lines (`Counted`). Assumes nothing.
 use native.Mathlib.Nat.{lt-of-lt-of-le, div-le-self}
 use borrow.Author.Needs.{needs}
 use native.Mathlib.Omega.{arith}
-use mathlib.Core.Path.{_≡_, sym, ap, subst, _∙_}
 use mathlib.Core.Logic.{⊎-elim}
-use Prim.Native.Nat.{ℕ, _+_, _-_, _*_, _/_, _<_, _≤_}
+use Prim.Native.Nat.{_+_, _-_, _*_, _<_, _≤_}
 use lib.ListN.{length}
 use Rattle.stored.specs.Lines.{widthOf}
 use Rattle.stored.proofs.Counts.{Counted, counted-start, counted-hit, counted-miss, counted-end, inside}
 use Rattle.stored.proofs.count.Statement.{statement}
 use Rattle.stored.proofs.count.Tie as tie
-use Rattle.stored.proofs.count.Reads as reads
-use Rattle.stored.proofs.count.Lts as lts
-use Rattle.stored.proofs.hit.Reads as hit-reads
-use Rattle.stored.proofs.width.Reads as width-reads
-
 
 abbrev Inv-loop : tie.InvT-loop
 Inv-loop text columns letter good width lines n₀ i₀ n i = Counted text columns letter good n i
@@ -29,39 +24,30 @@ few c = lt-of-lt-of-le (c .loop-test .taken) (div-le-self _ _)
 ends : (c : tie.In-loop Inv-loop μ-loop) → c .before .loop .i * c .before .before .width .result + widthOf (c .before .before .before .before .args .columns) ≤ length (c .before .before .before .before .args .text .now)
 ends c = inside _ _ (c .before .before .width .ensures) (c .loop-test .taken)
 
--- src/lib.rt:67:9
 width-requires : tie.Need-width-requires Inv-loop μ-loop
 width-requires c κs = search needs
 
--- src/lib.rt:68:17
 div-lines : tie.Need-div-lines Inv-loop μ-loop
 div-lines c = omega (arith, c .width .ensures)
 
--- src/lib.rt:71:5
 loop-holds : tie.Need-loop-holds Inv-loop μ-loop
 loop-holds c = counted-start _ _ _ _
 
--- src/lib.rt:72:31
 mul-hit : tie.Need-mul-hit Inv-loop μ-loop
 mul-hit c = omega (arith, ends c)
 
--- src/lib.rt:72:12
 hit-requires : tie.Need-hit-requires Inv-loop μ-loop
 hit-requires c κs = ends c
 
--- src/lib.rt:73:13
 add-n : tie.Need-add-n Inv-loop μ-loop
 add-n c = omega (arith, c .before .before .before .loop .inv .most, few (c .before .before))
 
--- src/lib.rt:75:9
 add-i : tie.Need-add-i Inv-loop μ-loop
 add-i c = omega (arith, few (c .before .before))
 
--- src/lib.rt:71:5
 loop-less : tie.Need-loop-less Inv-loop μ-loop
 loop-less c = omega arith
 
--- src/lib.rt:71:5
 loop-again : tie.Need-loop-again Inv-loop μ-loop
 loop-again c =
     let t = c .before .before in
@@ -70,7 +56,6 @@ loop-again c =
     (λ w. rw (w .1) (counted-miss _ _ _ _ (t .before .loop .inv) (t .before .before .width .ensures) (t .loop-test .taken) (c .before .hit .ensures) (w .0 .left)))
     (c .if1 .came)
 
--- src/lib.rt:64:1
 returns : tie.Need-returns Inv-loop μ-loop
 returns c = counted-end _ _ _ _ (c .before .loop .inv) (c .before .before .width .ensures) (c .loop-test .left)
 

@@ -1,27 +1,20 @@
-use Rattle.stored.proofs.Counts.{other, same}
+-- `stored::hit` meets its contract: the letter decides first, then the answer. Assumes nothing.
 use borrow.Author.Needs.{needs}
+use Rattle.stored.proofs.Counts.{other, same}
 use Rattle.stored.proofs.hit.Statement.{statement}
 use Rattle.stored.proofs.hit.Tie as tie
-use Rattle.stored.proofs.hit.Reads as reads
-use Rattle.stored.proofs.hit.Lts as lts
-use Rattle.stored.proofs.agrees.Reads as agrees-reads
 
-
--- src/lib.rt:51:8
 shared-slice-read-if1 : tie.Need-shared-slice-read-if1
 shared-slice-read-if1 c = search needs
 
--- src/lib.rt:52:9
 returns : tie.Need-returns
 returns c =
     let a = c .before .before .before .args in
     other (a .text .now) (a .columns) (a .at) (a .letter) (a .good) (c .if1 .taken)
 
--- src/lib.rt:54:5
 agrees-requires : tie.Need-agrees-requires
 agrees-requires c κs = search needs
 
--- src/lib.rt:47:1
 returns-2 : tie.Need-returns-2
 returns-2 c = same _ _ _ _ _ (c .before .if1 .left) (c .agrees .ensures)
 

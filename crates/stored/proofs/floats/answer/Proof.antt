@@ -1,180 +1,124 @@
+-- `stored::floats::answer` meets its contract: each arm is the list's answer at its place, by the contracts of the helper and of the conversions. Assumes nothing.
 use mathlib.Core.Path.{refl}
-use Rattle.stored.proofs.Answers.{placed, beyond, missed}
 use borrow.Author.Needs.{needs}
+use Rattle.stored.proofs.Answers.{placed, beyond, missed}
 use Rattle.stored.proofs.floats.answer.Statement.{statement}
 use Rattle.stored.proofs.floats.answer.Tie as tie
-use Rattle.stored.proofs.floats.answer.Reads as reads
-use Rattle.stored.proofs.floats.answer.Lts as lts
-use Rattle.float.proofs.abs64.Reads as abs64-reads
-use Rattle.float.proofs.floor32.Reads as floor32-reads
-use Rattle.float.proofs.is_finite32.Reads as is-finite32-reads
-use Rattle.float.proofs.max32.Reads as max32-reads
-use Rattle.float.proofs.max64.Reads as max64-reads
-use Rattle.float.proofs.min32.Reads as min32-reads
-use Rattle.float.proofs.sqrt32.Reads as sqrt32-reads
-use Rattle.float.proofs.sqrt64.Reads as sqrt64-reads
-use Rattle.float.proofs.to_f32.Reads as to-f32-reads
-use Rattle.float.proofs.total_less32.Reads as total-less32-reads
-use Rattle.float.proofs.total_less64.Reads as total-less64-reads
-use Rattle.stored.proofs.floats.of_bool.Reads as of-bool-reads
-use Rattle.stored.proofs.floats.of_double.Reads as of-double-reads
-use Rattle.stored.proofs.floats.of_single.Reads as of-single-reads
-use Rattle.stored.proofs.floats.to_double.Reads as to-double-reads
-use Rattle.stored.proofs.floats.to_single.Reads as to-single-reads
 
--- src/floats.rt:66:9
 to-single-requires : tie.Need-to-single-requires
 to-single-requires c κs = search needs
 
--- src/floats.rt:67:9
 to-single-requires-2 : tie.Need-to-single-requires-2
 to-single-requires-2 c κs = search needs
 
--- src/floats.rt:68:9
 to-double-requires : tie.Need-to-double-requires
 to-double-requires c κs = search needs
 
--- src/floats.rt:69:9
 to-double-requires-2 : tie.Need-to-double-requires-2
 to-double-requires-2 c κs = search needs
 
--- src/floats.rt:73:24
 sqrt32-requires : tie.Need-sqrt32-requires
 sqrt32-requires c κs = search needs
 
--- src/floats.rt:73:14
 of-single-requires : tie.Need-of-single-requires
 of-single-requires c κs = search needs
 
--- src/floats.rt:74:24
 sqrt64-requires : tie.Need-sqrt64-requires
 sqrt64-requires c κs = search needs
 
--- src/floats.rt:74:14
 of-double-requires : tie.Need-of-double-requires
 of-double-requires c κs = search needs
 
--- src/floats.rt:75:24
 to-f32-requires : tie.Need-to-f32-requires
 to-f32-requires c κs = search needs
 
--- src/floats.rt:75:14
 of-single-requires-2 : tie.Need-of-single-requires-2
 of-single-requires-2 c κs = search needs
 
--- src/floats.rt:76:24
 floor32-requires : tie.Need-floor32-requires
 floor32-requires c κs = search needs
 
--- src/floats.rt:76:14
 of-single-requires-3 : tie.Need-of-single-requires-3
 of-single-requires-3 c κs = search needs
 
--- src/floats.rt:77:24
 abs64-requires : tie.Need-abs64-requires
 abs64-requires c κs = search needs
 
--- src/floats.rt:77:14
 of-double-requires-2 : tie.Need-of-double-requires-2
 of-double-requires-2 c κs = search needs
 
--- src/floats.rt:78:22
 is-finite32-requires : tie.Need-is-finite32-requires
 is-finite32-requires c κs = search needs
 
--- src/floats.rt:78:14
 of-bool-requires : tie.Need-of-bool-requires
 of-bool-requires c κs = search needs
 
--- src/floats.rt:79:24
 max32-requires : tie.Need-max32-requires
 max32-requires c κs = search needs
 
--- src/floats.rt:79:14
 of-single-requires-4 : tie.Need-of-single-requires-4
 of-single-requires-4 c κs = search needs
 
--- src/floats.rt:80:24
 max64-requires : tie.Need-max64-requires
 max64-requires c κs = search needs
 
--- src/floats.rt:80:14
 of-double-requires-3 : tie.Need-of-double-requires-3
 of-double-requires-3 c κs = search needs
 
--- src/floats.rt:81:24
 min32-requires : tie.Need-min32-requires
 min32-requires c κs = search needs
 
--- src/floats.rt:81:14
 of-single-requires-5 : tie.Need-of-single-requires-5
 of-single-requires-5 c κs = search needs
 
--- src/floats.rt:82:23
 total-less32-requires : tie.Need-total-less32-requires
 total-less32-requires c κs = search needs
 
--- src/floats.rt:82:15
 of-bool-requires-2 : tie.Need-of-bool-requires-2
 of-bool-requires-2 c κs = search needs
 
--- src/floats.rt:83:23
 total-less64-requires : tie.Need-total-less64-requires
 total-less64-requires c κs = search needs
 
--- src/floats.rt:83:15
 of-bool-requires-3 : tie.Need-of-bool-requires-3
 of-bool-requires-3 c κs = search needs
 
--- src/floats.rt:63:1
 returns : tie.Need-returns
 returns c = placed _ _ _ 0 (c .match .keys1) refl
 
--- src/floats.rt:63:1
 returns-2 : tie.Need-returns-2
 returns-2 c = placed _ _ _ 1 (c .before .before .match .keys2) (cc)
 
--- src/floats.rt:63:1
 returns-3 : tie.Need-returns-3
 returns-3 c = placed _ _ _ 2 (c .before .before .match .keys3) (cc)
 
--- src/floats.rt:63:1
 returns-4 : tie.Need-returns-4
 returns-4 c = placed _ _ _ 3 (c .before .before .match .keys4) (cc)
 
--- src/floats.rt:63:1
 returns-5 : tie.Need-returns-5
 returns-5 c = placed _ _ _ 4 (c .before .before .match .keys5) (cc)
 
--- src/floats.rt:63:1
 returns-6 : tie.Need-returns-6
 returns-6 c = placed _ _ _ 5 (c .before .before .match .keys6) (cc)
 
--- src/floats.rt:63:1
 returns-7 : tie.Need-returns-7
 returns-7 c = placed _ _ _ 6 (c .before .before .match .keys7) (cc)
 
--- src/floats.rt:63:1
 returns-8 : tie.Need-returns-8
 returns-8 c = placed _ _ _ 7 (c .before .before .match .keys8) (cc)
 
--- src/floats.rt:63:1
 returns-9 : tie.Need-returns-9
 returns-9 c = placed _ _ _ 8 (c .before .before .match .keys9) (cc)
 
--- src/floats.rt:63:1
 returns-10 : tie.Need-returns-10
 returns-10 c = placed _ _ _ 9 (c .before .before .match .keys10) (cc)
 
--- src/floats.rt:63:1
 returns-11 : tie.Need-returns-11
 returns-11 c = placed _ _ _ 10 (c .before .before .match .keys11) (cc)
 
--- src/floats.rt:63:1
 returns-12 : tie.Need-returns-12
 returns-12 c = placed _ _ _ 11 (c .before .before .match .keys12) (cc)
 
--- src/floats.rt:63:1
 returns-13 : tie.Need-returns-13
 returns-13 c = beyond _ _ _ (missed 12 (c .match .rest))
 

@@ -1,23 +1,18 @@
-use Rattle.stored.proofs.Patterns.{quiet}
-use Rattle.ieee.proofs.Laws.{no-nan}
+-- `stored::floats::of_double` meets its contract: what differs from itself is the NaN. Assumes nothing.
 use lib.Ieee.{binary64, toBits}
 use borrow.Author.Needs.{needs}
+use Rattle.stored.proofs.Patterns.{quiet}
+use Rattle.ieee.proofs.Laws.{no-nan}
 use Rattle.stored.proofs.floats.of_double.Statement.{statement}
 use Rattle.stored.proofs.floats.of_double.Tie as tie
-use Rattle.stored.proofs.floats.of_double.Reads as reads
-use Rattle.stored.proofs.floats.of_double.Lts as lts
 
-
--- src/floats.rt:51:9
 returns : tie.Need-returns
 unfolding toBits
 returns c = quiet binary64 (c .before .args .x) (c .if1 .taken)
 
--- src/floats.rt:53:5
 float-to-bits-result : tie.Need-float-to-bits-result
 float-to-bits-result c = no-nan (c .before .args .x) (c .if1 .left)
 
--- src/floats.rt:47:1
 returns-2 : tie.Need-returns-2
 returns-2 c = search needs
 

@@ -1,28 +1,21 @@
-use Rattle.stored.proofs.Patterns.{quiet}
-use Rattle.ieee.proofs.Laws.{no-nan}
+-- `stored::floats::of_single` meets its contract: what differs from itself is the NaN. Assumes nothing.
 use lib.Ieee.{binary32, toBits}
 use borrow.Author.Needs.{needs}
+use Rattle.stored.proofs.Patterns.{quiet}
+use Rattle.ieee.proofs.Laws.{no-nan}
 use Rattle.stored.proofs.floats.of_single.Statement.{statement}
 use Rattle.stored.proofs.floats.of_single.Tie as tie
-use Rattle.stored.proofs.floats.of_single.Reads as reads
-use Rattle.stored.proofs.floats.of_single.Lts as lts
-use Rattle.stored.proofs.floats.wide.Reads as wide-reads
 
-
--- src/floats.rt:35:9
 returns : tie.Need-returns
 unfolding toBits
 returns c = quiet binary32 (c .before .args .x) (c .if1 .taken)
 
--- src/floats.rt:37:10
 float-to-bits-wide : tie.Need-float-to-bits-wide
 float-to-bits-wide c = no-nan (c .before .args .x) (c .if1 .left)
 
--- src/floats.rt:37:5
 wide-requires : tie.Need-wide-requires
 wide-requires c κs = search needs
 
--- src/floats.rt:31:1
 returns-2 : tie.Need-returns-2
 returns-2 c = search needs
 
