@@ -7,6 +7,7 @@
 //! run with status 1: it is made smaller while it still differs, and printed as a call, with floats as hexadecimal patterns. At the gate's size the stored answers are
 //! held to what --store would write.
 
+mod images;
 mod random;
 mod speed;
 mod topics;
