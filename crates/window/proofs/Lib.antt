@@ -2,3 +2,5 @@ pub mod Places
 pub mod Expressions
 pub mod Bounds
 pub mod Passes
+pub mod Weighted
+pub mod Squares

@@ -19,11 +19,11 @@ below4 Q a b c d (suc (suc (suc (suc n)))) h = absurd (beyond n h)
     beyond : (n : ℕ) → suc (suc (suc (suc n))) < 4 → ⊥
     beyond n h = omega arith
 
-both-l : (a b : Bool) → T (both a b) → T a
+pub both-l : (a b : Bool) → T (both a b) → T a
 both-l true b t = tt
 both-l false b t = t
 
-both-r : (a b : Bool) → T (both a b) → T b
+pub both-r : (a b : Bool) → T (both a b) → T b
 both-r true b t = t
 both-r false b t = absurd t
 

@@ -21,7 +21,7 @@ Pixels p = (x y : ℕ) → x < 4 → y < 4 → Pixel (p x y)
 
 -- ---- the figures
 
-abbrev minus : ℕ → ℤ
+abbrev pub minus : ℕ → ℤ
 minus n = negℤ (pos n)
 
 -- P0, P1, P2 and P3
