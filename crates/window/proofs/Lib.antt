@@ -4,3 +4,7 @@ pub mod Bounds
 pub mod Passes
 pub mod Weighted
 pub mod Squares
+pub mod Linear
+pub mod Mirrors
+pub mod Least
+pub mod Zero

@@ -1,6 +1,6 @@
 -- What holds at 0, 1, 2 and 3 holds at every number below 4; and so for pairs.
 use mathlib.Core.Path.{_≡_, ap}
-use mathlib.Core.Bool.{Bool, true, false}
+use mathlib.Core.Bool.{Bool, true, false, cond}
 use mathlib.Core.List.{List, [], _∷_}
 use Prim.Native.Nat.{ℕ, zero, suc, _<_}
 use native.Mathlib.Omega.{arith}
@@ -40,6 +40,16 @@ tested f t =
 -- a test that is true at all sixteen places is true at each
 pub sixteen : (f : ℕ → ℕ → Bool) → T (all4 (λ i. all4 (f i))) → (i j : ℕ) → i < 4 → j < 4 → T (f i j)
 sixteen f t i j p q = tested (f i) (tested (λ i. all4 (f i)) t i p) j q
+
+abbrev pub implies : Bool → Bool → Bool
+implies a b = cond a b true
+
+must : (a b : Bool) → T (implies a b) → T a → T b
+must true b t s = t
+must false b t s = absurd s
+
+pub sixteen-if : (g f : ℕ → ℕ → Bool) → T (all4 (λ i. all4 (λ j. implies (g i j) (f i j)))) → (i j : ℕ) → i < 4 → j < 4 → T (g i j) → T (f i j)
+sixteen-if g f t i j p q s = must (g i j) (f i j) (sixteen (λ i j. implies (g i j) (f i j)) t i j p q) s
 
 -- ---- a window's sixteen numbers as rows
 

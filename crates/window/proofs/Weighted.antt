@@ -7,7 +7,8 @@ use lib.Dec.{T, ltb, ltb→lt}
 use lib.IntN.{ℤ, pos, negsuc, natAbs, _+ℤ_, _*ℤ_, *ℤ-zero, *ℤ-comm}
 use Rattle.laws.proofs.Ring.{v, _⊕_, _⊗_, ring}
 use Rattle.laws.proofs.Machine.{both}
-use Rattle.window.specs.Window.{Term, sq, weighted}
+use Rattle.window.specs.Window.{Term, sq, weighted, gateTerms}
+use Rattle.window.specs.Squares.{gated}
 use Rattle.window.proofs.Places.{both-l, both-r}
 
 -- ---- a fact of each (i, j) that a list of terms names
@@ -26,12 +27,18 @@ each-term Q f h [] t = tt
 each-term Q f h (s ∷ ts) t =
     (h (s .i) (s .j) (both-l (f (s .i) (s .j)) (every f ts) t), each-term Q f h ts (both-r (f (s .i) (s .j)) (every f ts) t))
 
-abbrev below4² : ℕ → ℕ → Bool
-below4² i j = both (ltb i 4) (ltb j 4)
+-- those of the gate
+abbrev gated4 : ℕ → ℕ → Bool
+gated4 i j = both (ltb i 4) (both (ltb j 4) (gated i j))
 
-pub each-below4 : (Q : ℕ → ℕ → Type 0) → ((i j : ℕ) → i < 4 → j < 4 → Q i j) → (ts : List Term) → T (every below4² ts) → EachTerm Q ts
-each-below4 Q h =
-    each-term Q below4² (λ i j t. h i j (ltb→lt i 4 (both-l (ltb i 4) (ltb j 4) t)) (ltb→lt j 4 (both-r (ltb i 4) (ltb j 4) t)))
+pub each-gated : (Q : ℕ → ℕ → Type 0) → ((i j : ℕ) → i < 4 → j < 4 → T (gated i j) → Q i j) → EachTerm Q gateTerms
+each-gated Q h =
+    each-term Q gated4
+    (λ i j t.
+      let r = both-r (ltb i 4) (both (ltb j 4) (gated i j)) t in
+      h i j (ltb→lt i 4 (both-l (ltb i 4) (both (ltb j 4) (gated i j)) t)) (ltb→lt j 4 (both-l (ltb j 4) (gated i j) r))
+      (both-r (ltb j 4) (gated i j) r))
+    gateTerms tt
 
 -- ---- the sums
 
