@@ -8,3 +8,4 @@ pub mod Linear
 pub mod Mirrors
 pub mod Least
 pub mod Zero
+pub mod Most

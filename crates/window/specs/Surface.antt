@@ -1,6 +1,6 @@
 -- Surfaces, and what a surface misses of a window: demand 3.
 use mathlib.Core.Path.{_≡_}
-use Prim.Native.Nat.{ℕ, _≤_}
+use Prim.Native.Nat.{ℕ, _≤_, _<_}
 use lib.IntN.{ℤ, pos, _+ℤ_, _-ℤ_, _*ℤ_}
 use lib.Signed.{_≤ℤ_}
 use Rattle.window.specs.Window.{Window, P, sum4, sq}
@@ -33,3 +33,7 @@ missed p D s = sum4 (λ y. sum4 (λ x. sq (pos D *ℤ p x y -ℤ value s x y)))
 pub record Is400TimesLeastMisfit (p : Window) (g : ℤ) : Type 0 where
   pub never-less : (D : ℕ) → 1 ≤ D → (s : Surface) → (sq (pos D) *ℤ g) ≤ℤ (pos 400 *ℤ missed p D s)
   pub reached : (D : ℕ) × (1 ≤ D) × (s : Surface) × (sq (pos D) *ℤ g ≡ pos 400 *ℤ missed p D s)
+
+-- the surface equals 400 times the pixel at all sixteen places
+abbrev pub Is400Times : Surface → Window → Type 0
+Is400Times s p = (x y : ℕ) → x < 4 → y < 4 → value s x y ≡ pos 400 *ℤ p x y
