@@ -7,5 +7,8 @@ pub mod Squares
 pub mod Linear
 pub mod Mirrors
 pub mod Least
+pub mod OneLeast
 pub mod Zero
 pub mod Most
+pub mod Demand3
+pub mod Readings
