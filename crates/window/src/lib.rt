@@ -44,12 +44,10 @@ pub fn window_stats(px: [[i32; 4]; 4]) -> WindowStats
     let d = poly4_down(px);
     let t = transpose(d);
     let c = poly4_down(t);
+    let sum = c[0][0];
     let gate = weigh(c[1][2], c[2][1], c[2][3], c[3][2], c[3][0], c[0][3], c[2][2], c[1][3], c[3][1]);
-    WindowStats {
-        sum: c[0][0],
-        gate: gate,
-        op: c[3][3],
-    }
+    let op = c[3][3];
+    WindowStats { sum: sum, gate: gate, op: op }
 }
 
 // The gate's weighted squares.
