@@ -4,12 +4,13 @@ use mathlib.Core.Path.{_≡_, refl, sym, ap, _∙_, subst}
 use mathlib.Core.Bool.{cond}
 use Prim.Native.Nat.{ℕ, _+_, _*_, _≤_}
 use native.Mathlib.Omega.{arith}
-use lib.Dec.{le→leb, eqb}
+use lib.Dec.{le→leb, eqb, lit≤}
 use lib.IntN.{ℤ, pos, natAbs, _+ℤ_, _*ℤ_}
 use lib.Signed.{_≤ℤ_}
+use Rattle.laws.proofs.Choice.{cond-both}
 use Rattle.laws.proofs.Ring.{k, _⊗_, ring}
 use Rattle.laws.proofs.Machine.{under, abs-mul}
-use Rattle.window.specs.Window.{Window, Pixels, P, component, sq, weighted, gateTerms, gate, gateMost}
+use Rattle.window.specs.Window.{Window, Pixel, Pixels, P, component, sq, weighted, gateTerms, gate, gateMost}
 use Rattle.window.specs.Surface.{Surface, missed}
 use Rattle.window.proofs.Expressions.{numbers, at, sum4E, componentE, sqE, bounds, within}
 use Rattle.window.proofs.Bounds.{centred, centredE, centred-abs}
@@ -67,6 +68,11 @@ module _ (p : Window) (e : Pixels p) where
 -- 255 where P2 at x times P2 at y is 1, and 0 where it is -1
 abbrev pub peak : Window
 peak x y = cond (eqb (natAbs (P 2 x +ℤ P 2 y)) 2) (pos 255) (pos 0)
+
+pub peak-pixels : Pixels peak
+peak-pixels x y s t =
+    cond-both Pixel (eqb (natAbs (P 2 x +ℤ P 2 y)) 2) (pos 255) (pos 0) (record { byte = 255; is = refl; low = lit≤ tt })
+    (record { byte = 0; is = refl; low = lit≤ tt })
 
 -- and it is reached
 pub gate-most-reached : gate peak ≡ pos gateMost

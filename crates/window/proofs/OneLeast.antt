@@ -34,6 +34,7 @@ cancel n (negsuc a) (negsuc b) h =
     t =
         subst (λ (k : ℕ). T (leZ (negsuc (less n a)) (negℤ (pos k)))) (one-more n b)
         (subst (λ (k : ℕ). T (leZ (negℤ (pos k)) (pos (suc n) *ℤ negsuc b))) (one-more n a) h)
+
     pred-le : (b a : ℕ) → suc b ≤ suc a → b ≤ a
     pred-le b a h = omega arith
 
