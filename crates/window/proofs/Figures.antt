@@ -8,7 +8,7 @@ use lib.ListN.{getD}
 use lib.Signed.{nonNeg, _≤ℤ_}
 use Rattle.window.specs.Window.{Window, Pixels, pixelsAt, gate, gateMost, statsOf}
 use Rattle.window.specs.declared.WindowStats.{WindowStats}
-use Rattle.window.proofs.Same.{stats-same}
+use Rattle.window.proofs.Same.{stats-alike}
 use Rattle.window.proofs.Bounds.{bound, sum-bound}
 use Rattle.window.proofs.Most.{gate-is, gate-most}
 
@@ -26,7 +26,7 @@ module _ (p : Window) (e : Pixels p) where
 
   pub sum-positive : T (nonNeg (statsOf p .sum))
   unfolding statsOf
-  sum-positive = subst (λ (s : WindowStats). T (nonNeg (s .sum))) (sym (stats-same p bytes as-bytes)) tt
+  sum-positive = subst (λ (s : WindowStats). T (nonNeg (s .sum))) (sym (stats-alike p bytes as-bytes)) tt
 
   pub sum-within : natAbs (statsOf p .sum) ≤ 4080
   unfolding statsOf

@@ -19,6 +19,10 @@ rows-same p q e = four (each 0 (lit< tt)) (each 1 (lit< tt)) (each 2 (lit< tt)) 
     each : (y : ℕ) → y < 4 → row p y ≡ row q y
     each y h = four (e 0 y (lit< tt) h) (e 1 y (lit< tt) h) (e 2 y (lit< tt) h) (e 3 y (lit< tt) h)
 
-pub stats-same : (p q : Window) → ((x y : ℕ) → x < 4 → y < 4 → p x y ≡ q x y) → statsOf p ≡ statsOf q
+pub gate-alike : (p q : Window) → ((x y : ℕ) → x < 4 → y < 4 → p x y ≡ q x y) → gate p ≡ gate q
+unfolding gate
+gate-alike p q e = ap (λ (m : List (List ℤ)). gate (pixel m)) (rows-same p q e)
+
+pub stats-alike : (p q : Window) → ((x y : ℕ) → x < 4 → y < 4 → p x y ≡ q x y) → statsOf p ≡ statsOf q
 unfolding statsOf gate
-stats-same p q e = ap (λ (m : List (List ℤ)). statsOf (pixel m)) (rows-same p q e)
+stats-alike p q e = ap (λ (m : List (List ℤ)). statsOf (pixel m)) (rows-same p q e)

@@ -6,11 +6,10 @@ use Prim.Native.Nat.{ℕ, zero, suc, _+_, _*_, _<_}
 use native.Mathlib.Omega.{arith}
 use lib.IntN.{ℤ, pos, negsuc, natAbs, _+ℤ_, _-ℤ_, _*ℤ_, +ℤ-idl, +ℤ-invr, -ℤ-+ℤ-cancel}
 use Rattle.laws.proofs.Machine.{abs-mul}
-use Rattle.window.specs.Window.{Window, sum4, sq, gate, statsOf}
-use Rattle.window.specs.declared.WindowStats.{WindowStats}
+use Rattle.window.specs.Window.{Window, sum4, sq, gate}
 use Rattle.window.specs.Surface.{Surface, value, missed, Is400Times}
 use Rattle.window.proofs.Places.{below4}
-use Rattle.window.proofs.Same.{stats-same}
+use Rattle.window.proofs.Same.{gate-alike}
 use Rattle.window.proofs.Weighted.{sq-is}
 use Rattle.window.proofs.Least.{left, gate-left, nearest, reached}
 
@@ -64,12 +63,11 @@ zero-difference : (a b : ℤ) → b -ℤ a ≡ pos 0 → a ≡ b
 zero-difference a b h = sym (sym (-ℤ-+ℤ-cancel b a) ∙ ap (λ (z : ℤ). z +ℤ a) h ∙ +ℤ-idl a)
 
 from-surface : (p : Window) (s : Surface) → Is400Times s p → gate p ≡ pos 0
-unfolding gate statsOf
+unfolding gate
 from-surface p s h =
     zero-times 159999 (gate p)
     (sym (gate-left p (pos 400) s)
-    ∙ ap (λ (f : WindowStats). f .gate)
-    (stats-same (left p (pos 400) s) (λ x y. pos 0) (λ x y u t. difference-zero (value s x y) (pos 400 *ℤ p x y) (h x y u t))))
+    ∙ gate-alike (left p (pos 400) s) (λ x y. pos 0) (λ x y u t. difference-zero (value s x y) (pos 400 *ℤ p x y) (h x y u t)))
 
 none-missed : (p : Window) → gate p ≡ pos 0 → sum4 (λ y. sum4 (λ x. sq (left p (pos 400) (nearest p) x y))) ≡ pos 0
 unfolding missed

@@ -14,7 +14,7 @@ use Rattle.laws.proofs.Machine.{four}
 use Rattle.window.specs.Window.{Pixel, pixel, pixelsAt, statsOf}
 use Rattle.window.specs.Passes.{rowAt}
 use Rattle.window.proofs.Places.{_and_, below4}
-use Rattle.window.proofs.Same.{stats-same}
+use Rattle.window.proofs.Same.{stats-alike}
 use Rattle.window.proofs.window.Statement.{statement}
 use Rattle.window.proofs.window.Tie as tie
 
@@ -89,7 +89,7 @@ returns c =
     ∙ ap (λ (m : List (List ℤ)). statsOf (pixel m))
     (four (c .before .before .before .before .row .ensures) (c .before .before .before .row2 .ensures) (c .before .before .row3 .ensures)
     (c .before .row4 .ensures))
-    ∙ stats-same (pixel (rowsAt (now (s .args .img)) (s .args .w) (s .args .at))) (pixelsAt (now (s .args .img)) (s .args .w) (s .args .at))
+    ∙ stats-alike (pixel (rowsAt (now (s .args .img)) (s .args .w) (s .args .at))) (pixelsAt (now (s .args .img)) (s .args .w) (s .args .at))
     (place (now (s .args .img)) (s .args .w) (s .args .at))
 
 pub window-spec : {M : Type 1} → statement M
