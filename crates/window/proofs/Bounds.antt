@@ -1,7 +1,7 @@
 -- The magnitude of a component: one that does not see a constant has half the bound of its weights, since twice a pixel less 255 is
 -- within 255 of 0.
 use mathlib.Core.Path.{_≡_, sym, ap, subst}
-use Prim.Native.Nat.{ℕ, _+_, _*_, _≤_, _<_}
+use Prim.Native.Nat.{ℕ, _*_, _≤_, _<_}
 use native.Mathlib.Omega.{arith}
 use lib.Dec.{T, leb}
 use lib.IntN.{ℤ, pos, natAbs, _-ℤ_, _*ℤ_}

@@ -1,4 +1,16 @@
 pub mod Places
+pub mod Same
 pub mod Expressions
 pub mod Bounds
 pub mod Passes
+pub mod Weighted
+pub mod Squares
+pub mod Linear
+pub mod Mirrors
+pub mod Least
+pub mod OneLeast
+pub mod Zero
+pub mod Most
+pub mod Figures
+pub mod Demand3
+pub mod Readings

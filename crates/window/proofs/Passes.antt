@@ -1,18 +1,19 @@
 -- The two passes of the four polynomials make the components, each of bounded magnitude, and their weighted squares the gate.
 use mathlib.Core.Path.{_≡_, refl, sym, ap, _∙_, subst}
 use mathlib.Core.List.{List, [], _∷_}
-use Prim.Native.Nat.{ℕ, zero, suc, _+_, _*_, _≤_, _<_}
+use Prim.Native.Nat.{ℕ, zero, suc, _≤_, _<_}
 use native.Mathlib.Omega.{arith}
 use lib.Dec.{T, leb, ltb, lit≤, lit<}
-use lib.IntN.{ℤ, pos, natAbs, _+ℤ_, _-ℤ_, _*ℤ_}
+use lib.IntN.{ℤ, pos, natAbs}
 use Rattle.laws.specs.Lists.{Each, Each²}
 use Rattle.laws.proofs.Ring.{Ex, v, k, _⊕_, _⊖_, _⊗_, eval, ring, same}
-use Rattle.laws.proofs.Machine.{each²-at, bnd, under, abs-mul, abs-byte, held, held-small}
-use Rattle.window.specs.Window.{Window, Pixel, Pixels, component, gateTerms, weighted, gate, statsOf, pixel}
+use Rattle.laws.proofs.Machine.{each²-at, bnd, under, held, held-small}
+use Rattle.window.specs.Window.{Window, Pixel, Pixels, component, gateTerms, gate, statsOf, pixel}
 use Rattle.window.specs.Passes.{Small, poly4Of, poly4Column, transposed, poly4Down, weighOf}
 use Rattle.window.specs.declared.WindowStats.{WindowStats}
-use Rattle.window.proofs.Expressions.{numbers, at, componentE, sqE, weightedE, bounds, within}
-use Rattle.window.proofs.Bounds.{pixel-abs, centredE, bound, sum-bound}
+use Rattle.window.proofs.Places.{_and_}
+use Rattle.window.proofs.Expressions.{numbers, at, componentE, sqE, weightedE}
+use Rattle.window.proofs.Bounds.{pixel-abs, bound, sum-bound}
 
 -- ---- small numbers
 
@@ -35,7 +36,7 @@ polyE (suc (suc zero)) a b c d = a ⊖ b ⊖ c ⊕ d
 polyE (suc (suc (suc n))) a b c d = a ⊖ k (pos 3) ⊗ b ⊕ k (pos 3) ⊗ c ⊖ d
 
 small-column : (a b c d : ℤ) → natAbs a ≤ 255 → natAbs b ≤ 255 → natAbs c ≤ 255 → natAbs d ≤ 255 → Each (Small 4080) (poly4Of a b c d)
-small-column a b c d ha hb hc hd = (one 0 tt, (one 1 tt, (one 2 tt, (one 3 tt, tt))))
+small-column a b c d ha hb hc hd = one 0 tt and one 1 tt and one 2 tt and one 3 tt and tt
   where
     ρ : List ℤ
     ρ = a ∷ b ∷ c ∷ d ∷ []
@@ -47,10 +48,10 @@ small-column a b c d ha hb hc hd = (one 0 tt, (one 1 tt, (one 2 tt, (one 3 tt, t
     e i = polyE i (v 0) (v 1) (v 2) (v 3)
 
     one : (i : ℕ) → T (leb (bnd β (e i)) 4080) → Small 4080 (eval ρ (e i))
-    one i t = record { small = under ρ β (ha, (hb, (hc, (hd, tt)))) (e i) 4080 t }
+    one i t = record { small = under ρ β (ha and hb and hc and hd and tt) (e i) 4080 t }
 
 pub passed-small : (m : List (List ℤ)) → Pixels (pixel m) → Each² (Small 4080) (transposed (poly4Down m))
-passed-small m e = (col 0 (lit< tt), (col 1 (lit< tt), (col 2 (lit< tt), (col 3 (lit< tt), tt))))
+passed-small m e = col 0 (lit< tt) and col 1 (lit< tt) and col 2 (lit< tt) and col 3 (lit< tt) and tt
   where
     col : (x : ℕ) → x < 4 → Each (Small 4080) (poly4Column m x)
     col x h =
@@ -142,7 +143,7 @@ module _ (m c : List (List ℤ)) (e : Pixels (pixel m)) (r : c ≡ passes m) whe
   pub weighable : Each (Small 4080) (of c 1 2 ∷ of c 2 1 ∷ of c 2 3 ∷ of c 3 2 ∷ of c 3 0 ∷ of c 0 3 ∷ of c 2 2 ∷ [])
       × Each (Small 8160) (of c 1 3 ∷ of c 3 1 ∷ [])
   weighable =
-      ((small g12, (small g21, (small g23, (small g32, (small g30, (small g03, (small g22, tt))))))), (small g13, (small g31, tt)))
+      (small g12 and small g21 and small g23 and small g32 and small g30 and small g03 and small g22 and tt, small g13 and small g31 and tt)
 
   abbrev weighed : ℤ
   weighed = weighOf (of c 1 2) (of c 2 1) (of c 2 3) (of c 3 2) (of c 3 0) (of c 0 3) (of c 2 2) (of c 1 3) (of c 3 1)
@@ -156,25 +157,9 @@ module _ (m c : List (List ℤ)) (e : Pixels (pixel m)) (r : c ≡ passes m) whe
   weighed-fits : natAbs weighed ≤ 1048723200
   weighed-fits =
       under (of c 1 2 ∷ of c 2 1 ∷ of c 2 3 ∷ of c 3 2 ∷ of c 3 0 ∷ of c 0 3 ∷ of c 2 2 ∷ of c 1 3 ∷ of c 3 1 ∷ [])
-      (4080 ∷ 4080 ∷ 4080 ∷ 4080 ∷ 4080 ∷ 4080 ∷ 4080 ∷ 8160 ∷ 8160 ∷ []) (
-        small g12 .small,
-        (
-          small g21 .small,
-          (
-            small g23 .small,
-            (
-              small g32 .small,
-              (
-                small g30 .small,
-                (
-                  small g03 .small,
-                  (small g22 .small, (small g13 .small, (small g31 .small, tt))),
-                ),
-              ),
-            ),
-          ),
-        ),
-      )
+      (4080 ∷ 4080 ∷ 4080 ∷ 4080 ∷ 4080 ∷ 4080 ∷ 4080 ∷ 8160 ∷ 8160 ∷ [])
+      (small g12 .small and small g21 .small and small g23 .small and small g32 .small and small g30 .small and small g03 .small
+      and small g22 .small and small g13 .small and small g31 .small and tt)
       (k (pos 5) ⊗ (s 0 ⊕ s 1 ⊕ s 2 ⊕ s 3 ⊕ s 4 ⊕ s 5) ⊕ k (pos 25) ⊗ s 6 ⊕ s 7 ⊕ s 8) 1048723200 tt
     where
       s : ℕ → Ex

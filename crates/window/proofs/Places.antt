@@ -1,13 +1,14 @@
--- What holds at 0, 1, 2 and 3 holds at every number below 4; and so for pairs.
-use mathlib.Core.Path.{_≡_, ap}
-use mathlib.Core.Bool.{Bool, true, false}
-use mathlib.Core.List.{List, [], _∷_}
+-- What holds at 0, 1, 2 and 3 holds at every number below 4; and so for pairs of numbers.
+use mathlib.Core.Bool.{Bool, true, false, cond}
 use Prim.Native.Nat.{ℕ, zero, suc, _<_}
 use native.Mathlib.Omega.{arith}
-use lib.Dec.{T, lit<}
-use lib.IntN.{ℤ}
-use Rattle.laws.proofs.Machine.{both, four}
-use Rattle.window.specs.Window.{Window, gate, statsOf, pixel}
+use lib.Dec.{T}
+use Rattle.laws.proofs.Machine.{both}
+
+-- one fact and the rest: a chain that ends in tt is a fact of each element of a list
+infixr 5 _and_
+abbrev pub _and_ : {A B : Type 0} → A → B → A × B
+a and b = (a, b)
 
 pub below4 : (Q : ℕ → Type 0) → Q 0 → Q 1 → Q 2 → Q 3 → (x : ℕ) → x < 4 → Q x
 below4 Q a b c d zero h = a
@@ -19,11 +20,11 @@ below4 Q a b c d (suc (suc (suc (suc n)))) h = absurd (beyond n h)
     beyond : (n : ℕ) → suc (suc (suc (suc n))) < 4 → ⊥
     beyond n h = omega arith
 
-both-l : (a b : Bool) → T (both a b) → T a
+pub both-l : (a b : Bool) → T (both a b) → T a
 both-l true b t = tt
 both-l false b t = t
 
-both-r : (a b : Bool) → T (both a b) → T b
+pub both-r : (a b : Bool) → T (both a b) → T b
 both-r true b t = t
 both-r false b t = absurd t
 
@@ -41,21 +42,12 @@ tested f t =
 pub sixteen : (f : ℕ → ℕ → Bool) → T (all4 (λ i. all4 (f i))) → (i j : ℕ) → i < 4 → j < 4 → T (f i j)
 sixteen f t i j p q = tested (f i) (tested (λ i. all4 (f i)) t i p) j q
 
--- ---- a window's sixteen numbers as rows
+abbrev pub implies : Bool → Bool → Bool
+implies a b = cond a b true
 
-abbrev row : Window → ℕ → List ℤ
-row p y = p 0 y ∷ p 1 y ∷ p 2 y ∷ p 3 y ∷ []
+must : (a b : Bool) → T (implies a b) → T a → T b
+must true b t s = t
+must false b t s = absurd s
 
-abbrev pub rows : Window → List (List ℤ)
-rows p = row p 0 ∷ row p 1 ∷ row p 2 ∷ row p 3 ∷ []
-
-pub rows-same : (p q : Window) → ((x y : ℕ) → x < 4 → y < 4 → p x y ≡ q x y) → rows p ≡ rows q
-rows-same p q e = four (each 0 (lit< tt)) (each 1 (lit< tt)) (each 2 (lit< tt)) (each 3 (lit< tt))
-  where
-    each : (y : ℕ) → y < 4 → row p y ≡ row q y
-    each y h = four (e 0 y (lit< tt) h) (e 1 y (lit< tt) h) (e 2 y (lit< tt) h) (e 3 y (lit< tt) h)
-
--- what is measured depends on the sixteen numbers alone
-pub stats-same : (p q : Window) → ((x y : ℕ) → x < 4 → y < 4 → p x y ≡ q x y) → statsOf p ≡ statsOf q
-unfolding statsOf gate
-stats-same p q e = ap (λ (m : List (List ℤ)). statsOf (pixel m)) (rows-same p q e)
+pub sixteen-if : (g f : ℕ → ℕ → Bool) → T (all4 (λ i. all4 (λ j. implies (g i j) (f i j)))) → (i j : ℕ) → i < 4 → j < 4 → T (g i j) → T (f i j)
+sixteen-if g f t i j p q s = must (g i j) (f i j) (sixteen (λ i j. implies (g i j) (f i j)) t i j p q) s

@@ -21,7 +21,7 @@ Pixels p = (x y : ℕ) → x < 4 → y < 4 → Pixel (p x y)
 
 -- ---- the figures
 
-abbrev minus : ℕ → ℤ
+abbrev pub minus : ℕ → ℤ
 minus n = negℤ (pos n)
 
 -- P0, P1, P2 and P3
@@ -76,6 +76,10 @@ gateTerms =
 
 unfoldable pub gate : Window → ℤ
 gate p = weighted gateTerms (component p)
+
+-- what the gate never exceeds
+abbrev pub gateMost : ℕ
+gateMost = 104040000
 
 unfoldable pub statsOf : Window → WindowStats
 statsOf p = record { sum = component p 0 0; gate = gate p; op = component p 3 3 }

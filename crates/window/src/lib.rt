@@ -49,6 +49,7 @@ pub fn window_stats(px: [[i32; 4]; 4]) -> WindowStats
     let d = poly4_down(px);
     let t = transpose(d);
     let c = poly4_down(t);
+    let sum = c[0][0];
     let gate = weigh(
         c[1][2],
         c[2][1],
@@ -60,10 +61,11 @@ pub fn window_stats(px: [[i32; 4]; 4]) -> WindowStats
         c[1][3],
         c[3][1],
     );
+    let op = c[3][3];
     WindowStats {
-        sum: c[0][0],
+        sum: sum,
         gate: gate,
-        op: c[3][3],
+        op: op,
     }
 }
 

@@ -4,6 +4,7 @@ use Prim.Native.Nat.{ℕ}
 use lib.IntN.{ℤ, pos}
 use Rattle.laws.proofs.Ring.{Ex, v, k, _⊕_, _⊗_}
 use Rattle.laws.proofs.Machine.{Within, fits, held-is}
+use Rattle.window.proofs.Places.{_and_}
 use Rattle.window.proofs.weigh.Statement.{statement}
 use Rattle.window.proofs.weigh.Tie as tie
 
@@ -18,22 +19,9 @@ abbrev ρ : tie.Start → List ℤ
 in-range : (c : tie.Start) → Within (ρ c) β
 in-range c =
     let b = c .pre .0 in
-    let d = c .pre .1 in (
-      b .0 .small,
-      (
-        b .1 .0 .small,
-        (
-          b .1 .1 .0 .small,
-          (
-            b .1 .1 .1 .0 .small,
-            (
-              b .1 .1 .1 .1 .0 .small,
-              (b .1 .1 .1 .1 .1 .0 .small, (b .1 .1 .1 .1 .1 .1 .0 .small, (d .0 .small, (d .1 .0 .small, tt)))),
-            ),
-          ),
-        ),
-      ),
-    )
+    let d = c .pre .1 in
+    b .0 .small and b .1 .0 .small and b .1 .1 .0 .small and b .1 .1 .1 .0 .small and b .1 .1 .1 .1 .0 .small
+    and b .1 .1 .1 .1 .1 .0 .small and b .1 .1 .1 .1 .1 .1 .0 .small and d .0 .small and d .1 .0 .small and tt
 
 abbrev s : ℕ → Ex
 s n = v n ⊗ v n

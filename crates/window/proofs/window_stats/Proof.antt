@@ -30,6 +30,12 @@ poly4-down-requires-2 c κs =
     subst (λ (m : List (List ℤ)). Each² (Small 4080) m) (sym (c .transpose .ensures ∙ ap transposed (c .before .poly4-down .ensures)))
     (passed-small (a .args .px) (in-rows (a .args .px) (a .pre)))
 
+index-1-sum : tie.Need-index-1-sum
+index-1-sum c = omega arith
+
+index-2-sum : tie.Need-index-2-sum
+index-2-sum c = omega arith
+
 index-1-weigh : tie.Need-index-1-weigh
 index-1-weigh c = omega arith
 
@@ -86,26 +92,20 @@ index-2-weigh-9 c = omega arith
 
 weigh-requires : tie.Need-weigh-requires
 weigh-requires c κs =
-    let a = c .before .before .before .before .before .before .before .before .before in
+    let a = c .before .before .before .before .before .before .before .before .before .before in
     weighable (a .before .before .before .args .px) (a .poly4-down2 .result) (measured a) (passed a)
 
-index-1-t11 : tie.Need-index-1-t11
-index-1-t11 c = omega arith
+index-1-op : tie.Need-index-1-op
+index-1-op c = omega arith
 
-index-2-t11 : tie.Need-index-2-t11
-index-2-t11 c = omega arith
-
-index-1-t51 : tie.Need-index-1-t51
-index-1-t51 c = omega arith
-
-index-2-t51 : tie.Need-index-2-t51
-index-2-t51 c = omega arith
+index-2-op : tie.Need-index-2-op
+index-2-op c = omega arith
 
 returns : tie.Need-returns
 returns c =
     let a = c .before .before .before .before .before .before .before .before .before .before .before .before in
-    stats-is (a .before .before .before .args .px) (a .poly4-down2 .result) (measured a) (passed a) (c .before .before .weigh .result)
-    (c .before .before .weigh .ensures)
+    stats-is (a .before .before .before .args .px) (a .poly4-down2 .result) (measured a) (passed a) (c .before .weigh .result)
+    (c .before .weigh .ensures)
 
 pub window-stats-spec : {M : Type 1} → statement M
 window-stats-spec =
@@ -114,6 +114,8 @@ window-stats-spec =
     poly4-down-requires
     transpose-requires
     poly4-down-requires-2
+    index-1-sum
+    index-2-sum
     index-1-weigh
     index-2-weigh
     index-1-weigh-2
@@ -133,8 +135,6 @@ window-stats-spec =
     index-1-weigh-9
     index-2-weigh-9
     weigh-requires
-    index-1-t11
-    index-2-t11
-    index-1-t51
-    index-2-t51
+    index-1-op
+    index-2-op
     returns)
