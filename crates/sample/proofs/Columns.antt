@@ -1,0 +1,110 @@
+-- Columns of equal length in one slice: a store changes one column at one place. Assumes nothing.
+use mathlib.Core.Path.{_≡_, refl, sym, ap, _∙_, subst}
+use mathlib.Core.List.{List, [], _∷_, _++_, append-assoc}
+use Prim.Native.Nat.{ℕ, zero, suc, _+_, _-_, _*_, _≤_, _<_}
+use native.Mathlib.Nat.{mul-le-mul-right}
+use native.Mathlib.Omega.{arith}
+use lib.Dec.{lit<}
+use lib.ListN.{length, take, drop, set, length-set, length-take, length-drop, take-append-drop}
+use lib.Seq.{take-set-lt, take-set-le, drop-set-lt, drop-set-add, drop-drop}
+use lib.IntN.{ℤ}
+use Rattle.laws.specs.Lists.{joined}
+use Rattle.window.specs.declared.WindowStats.{WindowStats}
+use Rattle.sample.specs.Columns.{columnCount, field, column, Stored}
+
+-- ---- a store at place i of column d
+
+module _ (t c : ℕ) (l : List ℤ) (i : ℕ) (v : ℤ) (h : i < t) where
+  column-same : column t c (set l (c * t + i) v) ≡ set (column t c l) i v
+  column-same = ap (λ (m : List ℤ). take t m) (drop-set-add (c * t) l i v) ∙ take-set-lt t (drop (c * t) l) i v h
+
+  column-before : (d : ℕ) → d < c → column t c (set l (d * t + i) v) ≡ column t c l
+  column-before d g = ap (λ (m : List ℤ). take t m) (drop-set-lt (c * t) l (d * t + i) v (omega (arith, mul-le-mul-right t g)))
+
+  column-after : (d : ℕ) → c < d → column t c (set l (d * t + i) v) ≡ column t c l
+  column-after d g =
+      ap (λ (n : ℕ). take t (drop (c * t) (set l n v))) (past (mul-le-mul-right t g))
+      ∙ ap (λ (m : List ℤ). take t m) (drop-set-add (c * t) l (d * t + i - c * t) v)
+      ∙ take-set-le t (drop (c * t) l) (d * t + i - c * t) v (omega (arith, mul-le-mul-right t g))
+    where
+      past : suc c * t ≤ d * t → d * t + i ≡ c * t + (d * t + i - c * t)
+      past g = omega arith
+
+-- what lies beyond the columns is not touched
+beyond-set : (t d : ℕ) (l : List ℤ) (i : ℕ) (v : ℤ) → i < t → d < columnCount → drop (columnCount * t) (set l (d * t + i) v) ≡ drop (columnCount * t) l
+beyond-set t d l i v h g = drop-set-lt (columnCount * t) l (d * t + i) v (omega (arith, mul-le-mul-right t g))
+
+-- the stores of one window's figures
+module _ (t i : ℕ) (l : List ℤ) (f : WindowStats) (h : i < t) where
+  abbrev one : List ℤ
+  one = set l (0 * t + i) (f .sum)
+
+  abbrev two : List ℤ
+  two = set one (1 * t + i) (f .gate)
+
+  abbrev three : List ℤ
+  three = set two (2 * t + i) (f .op)
+
+  each : (c : ℕ) → c < columnCount → column t c three ≡ set (column t c l) i (field c f)
+  each zero g = column-after t 0 two i (f .op) h 2 (lit< tt) ∙ column-after t 0 one i (f .gate) h 1 (lit< tt) ∙ column-same t 0 l i (f .sum) h
+  each (suc zero) g =
+      column-after t 1 two i (f .op) h 2 (lit< tt) ∙ column-same t 1 one i (f .gate) h
+      ∙ ap (λ (m : List ℤ). set m i (f .gate)) (column-before t 1 l i (f .sum) h 0 (lit< tt))
+  each (suc (suc zero)) g =
+      column-same t 2 two i (f .op) h
+      ∙ ap (λ (m : List ℤ). set m i (f .op)) (column-before t 2 one i (f .gate) h 1 (lit< tt) ∙ column-before t 2 l i (f .sum) h 0 (lit< tt))
+  each (suc (suc (suc c))) g = absurd (none c g)
+    where
+      none : (c : ℕ) → suc (suc (suc c)) < 3 → ⊥
+      none c g = omega arith
+
+  all-three : Stored t i f l three
+  all-three = record {
+      each = each;
+      beyond = beyond-set t 2 two i (f .op) h (lit< tt) ∙ beyond-set t 1 one i (f .gate) h (lit< tt) ∙ beyond-set t 0 l i (f .sum) h (lit< tt);
+      long = length-set two (2 * t + i) (f .op) ∙ length-set one (1 * t + i) (f .gate) ∙ length-set l (0 * t + i) (f .sum) }
+
+  -- as the code writes them
+  pub stored : {a b d : ℤ} → a ≡ f .sum → b ≡ f .gate → d ≡ f .op → Stored t i f l (set (set (set l i a) (t + i) b) (2 * t + i) d)
+  stored {a} {b} {d} p q r = subst (λ (m : List ℤ). Stored t i f l m) (sym same) all-three
+    where
+      zeroth : i ≡ 0 * t + i
+      zeroth = omega arith
+      first : t + i ≡ 1 * t + i
+      first = omega arith
+      same : set (set (set l i a) (t + i) b) (2 * t + i) d ≡ three
+      same =
+          ap (λ (z : ℤ). set (set (set l i a) (t + i) b) (2 * t + i) z) r
+          ∙ ap (λ (z : ℤ). set (set (set l i a) (t + i) z) (2 * t + i) (f .op)) q
+          ∙ ap (λ (z : ℤ). set (set (set l i z) (t + i) (f .gate)) (2 * t + i) (f .op)) p
+          ∙ ap (λ (n : ℕ). set (set (set l i (f .sum)) n (f .gate)) (2 * t + i) (f .op)) first
+          ∙ ap (λ (n : ℕ). set (set (set l n (f .sum)) (1 * t + i) (f .gate)) (2 * t + i) (f .op)) zeroth
+
+-- ---- a slice is its columns and what lies beyond
+
+pub column-long : (t c : ℕ) (l : List ℤ) → c < columnCount → columnCount * t ≤ length l → length (column t c l) ≡ t
+column-long t c l g h = omega (arith, length-take t (drop (c * t) l), length-drop (c * t) l, mul-le-mul-right t g)
+
+from-column : (t k n : ℕ) (l : List ℤ) → joined (λ c. column t c l) k n ++ drop ((k + n) * t) l ≡ drop (k * t) l
+from-column t k zero l = ap (λ (m : ℕ). drop (m * t) l) (none k)
+  where
+    none : (k : ℕ) → k + zero ≡ k
+    none k = omega arith
+from-column t k (suc n) l =
+    append-assoc (column t k l) (joined (λ c. column t c l) (suc k) n) (drop ((k + suc n) * t) l)
+    ∙ ap (λ (m : ℕ). column t k l ++ (joined (λ c. column t c l) (suc k) n ++ drop (m * t) l)) (over k n)
+    ∙ ap (λ (m : List ℤ). column t k l ++ m) (from-column t (suc k) n l)
+    ∙ ap (λ (m : ℕ). column t k l ++ drop m l) (next k t)
+    ∙ ap (λ (m : List ℤ). column t k l ++ m) (sym (drop-drop t (k * t) l))
+    ∙ take-append-drop t (drop (k * t) l)
+  where
+    over : (k n : ℕ) → k + suc n ≡ suc k + n
+    over k n = omega arith
+    next : (k t : ℕ) → suc k * t ≡ k * t + t
+    next k t = omega arith
+
+pub whole : (t : ℕ) (l : List ℤ) → joined (λ c. column t c l) 0 columnCount ++ drop (columnCount * t) l ≡ l
+whole t l = from-column t 0 columnCount l ∙ ap (λ (n : ℕ). drop n l) (none t)
+  where
+    none : (t : ℕ) → 0 * t ≡ 0
+    none t = omega arith
