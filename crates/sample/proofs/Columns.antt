@@ -1,16 +1,18 @@
 -- Columns of equal length in one slice: a store changes one column at one place. Assumes nothing.
 use mathlib.Core.Path.{_≡_, refl, sym, ap, _∙_, subst}
-use mathlib.Core.List.{List, [], _∷_, _++_, append-assoc}
+use mathlib.Core.List.{List, [], _∷_, _++_, append-assoc, map}
 use Prim.Native.Nat.{ℕ, zero, suc, _+_, _-_, _*_, _≤_, _<_}
 use native.Mathlib.Nat.{mul-le-mul-right}
 use native.Mathlib.Omega.{arith}
 use lib.Dec.{lit<}
-use lib.ListN.{length, take, drop, set, length-set, length-take, length-drop, take-append-drop}
-use lib.Seq.{take-set-lt, take-set-le, drop-set-lt, drop-set-add, drop-drop}
-use lib.IntN.{ℤ}
-use Rattle.laws.specs.Lists.{joined}
+use lib.ListN.{length, getD, take, drop, set, length-append, length-map, List·getD-append, List·getD-map, length-set, length-take, length-drop, take-append-drop}
+use lib.Seq.{getD-append-add, take-set-lt, take-set-le, drop-set-lt, drop-set-add, drop-drop}
+use lib.IntN.{ℤ, pos}
+use Rattle.laws.specs.Lists.{from, joined}
+use Rattle.laws.proofs.Fill.{from-get}
+use Rattle.sample.proofs.Rows.{from-same}
 use Rattle.window.specs.declared.WindowStats.{WindowStats}
-use Rattle.sample.specs.Columns.{columnCount, field, column, Stored}
+use Rattle.sample.specs.Columns.{columnCount, field, columns, columnsIn, column, figureIn, figuresIn, Stored}
 
 -- ---- a store at place i of column d
 
@@ -108,3 +110,80 @@ whole t l = from-column t 0 columnCount l ∙ ap (λ (n : ℕ). drop n l) (none 
   where
     none : (t : ℕ) → 0 * t ≡ 0
     none t = omega arith
+
+-- ---- figures laid in columns are read back
+
+-- element k of row c, the rows being t long
+joined-at : (rows : ℕ → List ℤ) (t : ℕ) → ((i : ℕ) → length (rows i) ≡ t) → (j n c k : ℕ) → c < n → k < t → getD (joined rows j n) (c * t + k) (pos 0) ≡ getD (rows (j + c)) k (pos 0)
+joined-at rows t e j zero c k h g = absurd (none c h)
+  where
+    none : (c : ℕ) → c < 0 → ⊥
+    none c h = omega arith
+joined-at rows t e j (suc n) zero k h g =
+    ap (λ (i : ℕ). getD (rows j ++ joined rows (suc j) n) i (pos 0)) (first t k)
+    ∙ List·getD-append (rows j) (joined rows (suc j) n) (pos 0) k (omega (arith, e j))
+    ∙ ap (λ (i : ℕ). getD (rows i) k (pos 0)) (same j)
+  where
+    first : (t k : ℕ) → 0 * t + k ≡ k
+    first t k = omega arith
+    same : (j : ℕ) → j ≡ j + 0
+    same j = omega arith
+joined-at rows t e j (suc n) (suc c) k h g =
+    ap (λ (i : ℕ). getD (rows j ++ joined rows (suc j) n) i (pos 0)) (past (length (rows j)) (e j))
+    ∙ getD-append-add (rows j) (joined rows (suc j) n) (c * t + k) (pos 0)
+    ∙ joined-at rows t e (suc j) n c k (omega arith) g
+    ∙ ap (λ (i : ℕ). getD (rows i) k (pos 0)) (over j c)
+  where
+    past : (m : ℕ) → m ≡ t → suc c * t + k ≡ m + (c * t + k)
+    past m p = omega arith
+    over : (j c : ℕ) → suc j + c ≡ j + suc c
+    over j c = omega arith
+
+joined-long : (rows : ℕ → List ℤ) (t : ℕ) → ((i : ℕ) → length (rows i) ≡ t) → (j n : ℕ) → length (joined rows j n) ≡ n * t
+joined-long rows t e j zero = omega arith
+joined-long rows t e j (suc n) = omega (arith, length-append (rows j) (joined rows (suc j) n), e j, joined-long rows t e (suc j) n)
+
+-- no figures
+none : WindowStats
+none = record { sum = pos 0; gate = pos 0; op = pos 0 }
+
+made : (f : WindowStats) {a b d : ℤ} → a ≡ f .sum → b ≡ f .gate → d ≡ f .op → record { sum = a; gate = b; op = d } ≡ f
+made f {a} {b} {d} p q r =
+    ap (λ (z : ℤ). record { sum = z; gate = b; op = d }) p ∙ ap (λ (z : ℤ). record { sum = f .sum; gate = z; op = d }) q
+    ∙ ap (λ (z : ℤ). record { sum = f .sum; gate = f .gate; op = z }) r
+
+module _ (fs : List WindowStats) (old : List ℤ) where
+  field-at : (c : ℕ) → c < columnCount → field c none ≡ pos 0 → (k : ℕ) → k < length fs → getD (columnsIn fs old) (c * length fs + k) (pos 0) ≡ field c (getD fs k none)
+  unfolding columnsIn
+  field-at c h z k g =
+      let t = length fs in
+      let rows : ℕ → List ℤ = λ c. map (field c) fs in
+      let long : (i : ℕ) → length (rows i) ≡ t = λ i. length-map fs (field i) in
+      List·getD-append (columns fs) (drop (columnCount * t) old) (pos 0) (c * t + k) (omega (arith, joined-long rows t long 0 columnCount, mul-le-mul-right t h))
+      ∙ joined-at rows t long 0 columnCount c k h g
+      ∙ ap (λ (i : ℕ). getD (rows i) k (pos 0)) (zeroth c)
+      ∙ ap (λ (d : ℤ). getD (rows c) k d) (sym z)
+      ∙ List·getD-map (field c) fs k none
+    where
+      zeroth : (c : ℕ) → 0 + c ≡ c
+      zeroth c = omega arith
+
+  one-back : (k : ℕ) → k < length fs → figureIn (length fs) (columnsIn fs old) k ≡ getD fs k none
+  unfolding none
+  one-back k g =
+      made (getD fs k none)
+      (ap (λ (i : ℕ). getD (columnsIn fs old) i (pos 0)) (first (length fs) k) ∙ field-at 0 (lit< tt) refl k g)
+      (ap (λ (i : ℕ). getD (columnsIn fs old) i (pos 0)) (second (length fs) k) ∙ field-at 1 (lit< tt) refl k g)
+      (field-at 2 (lit< tt) refl k g)
+    where
+      first : (t k : ℕ) → k ≡ 0 * t + k
+      first t k = omega arith
+      second : (t k : ℕ) → t + k ≡ 1 * t + k
+      second t k = omega arith
+
+  figures-back : figuresIn (length fs) (columnsIn fs old) ≡ fs
+  unfolding figuresIn
+  figures-back = from-same (figureIn (length fs) (columnsIn fs old)) (λ k. getD fs k none) 0 (length fs) (λ k a b. one-back k (omega arith)) ∙ from-get none fs
+
+  pub read-back : {t : ℕ} {l : List ℤ} → t ≡ length fs → l ≡ columnsIn fs old → figuresIn t l ≡ fs
+  read-back {t} {l} e f = ap (λ (n : ℕ). figuresIn n l) e ∙ ap (figuresIn (length fs)) f ∙ figures-back

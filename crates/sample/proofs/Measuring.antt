@@ -3,7 +3,7 @@ use mathlib.Core.Path.{_≡_, refl, sym, ap, _∙_, subst}
 use mathlib.Core.List.{List, [], _∷_, _++_, map, append-nil}
 use Prim.Native.Nat.{ℕ, zero, suc, _+_, _-_, _*_, _≤_, _<_}
 use native.Mathlib.Omega.{arith}
-use lib.ListN.{length, take, drop, drop-of-length-le}
+use lib.ListN.{length, take, drop, drop-of-length-le, length-map}
 use lib.IntN.{ℤ}
 use Rattle.laws.specs.Lists.{from, joined}
 use Rattle.laws.proofs.Fill.{Rows, rows-start, rows-put, rows-end, length-from, joined-none}
@@ -14,7 +14,7 @@ use Rattle.grid.proofs.Steps.{step-is, step-most}
 use Rattle.grid.proofs.Counts.{count-most}
 use Rattle.grid.proofs.Places.{total-more, total-by, inside-at, inside-pixels}
 use Rattle.sample.specs.Figures.{figureAt, figureOf, figuresOf}
-use Rattle.sample.specs.Columns.{columnCount, field, columns, column, Filled, RowFits}
+use Rattle.sample.specs.Columns.{columnCount, field, columns, columnsIn, column, Filled, RowFits}
 use Rattle.sample.proofs.Columns.{column-long, whole}
 use Rattle.sample.proofs.Rows.{joined-same, map-rows, map-map}
 
@@ -99,11 +99,13 @@ module _ {img : List ℕ} {w s m t : ℕ} {l₀ l : List ℤ} {to j : ℕ} (i : 
   full g = omega (arith, i .left, ap length (joined-none (rowOf w s) j m g))
 
   pub done : {h windows : ℕ} → Pass w h windows t s m → columnCount * t ≤ length l₀ → m ≤ j
-      → l ≡ columns (figuresOf img w h windows) ++ drop (columnCount * t) l₀
+      → l ≡ columnsIn (figuresOf img w h windows) l₀
+  unfolding columnsIn
   done {h} {windows} p f g =
       sym (whole t l)
       ∙ ap (λ (k : List ℤ). k ++ drop (columnCount * t) l) (joined-same (λ c. column t c l) (λ c. map (field c) (figuresOf img w h windows)) 0 columnCount (λ c a b. col c (omega arith)))
       ∙ ap (λ (k : List ℤ). columns (figuresOf img w h windows) ++ k) (i .beyond)
+      ∙ ap (λ (n : ℕ). columns (figuresOf img w h windows) ++ drop (columnCount * n) l₀) (p .total ∙ sym (length-map (placesOf w h windows) (figureAt img w)))
     where
       places : joined (rowOf w s) 0 m ≡ placesOf w h windows
       places = places-by w h windows s m (p .step) (p .rows)

@@ -19,7 +19,7 @@ module _ {A : Type 0} where
       ∙ ap (λ (l : List A). g k ++ l) (joined-same f g (suc k) n (λ i p q. e i (omega arith) (omega arith)))
 
 module _ {A B : Type 0} (g : A → B) where
-  map-append : (l m : List A) → map g (l ++ m) ≡ map g l ++ map g m
+  pub map-append : (l m : List A) → map g (l ++ m) ≡ map g l ++ map g m
   map-append [] m = refl
   map-append (a ∷ l) m = ap (λ (n : List B). g a ∷ n) (map-append l m)
 

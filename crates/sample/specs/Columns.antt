@@ -21,6 +21,10 @@ field (suc (suc c)) f = f .op
 abbrev pub columns : List WindowStats → List ℤ
 columns fs = joined (λ c. map (field c) fs) 0 columnCount
 
+-- a slice that held old, with the columns at its front; what lies beyond is as it was
+unfoldable pub columnsIn : List WindowStats → List ℤ → List ℤ
+columnsIn fs old = columns fs ++ drop (columnCount * length fs) old
+
 -- column c of a slice whose columns are t long
 abbrev pub column : ℕ → ℕ → List ℤ → List ℤ
 column t c l = take t (drop (c * t) l)

@@ -1,14 +1,13 @@
 // Sampling: the windows of a pass measured into the lent i32 slice, counted by band, and laid into the lent f32 slice.
 ghost use mathlib.Core.Path.{_≡_};
-ghost use mathlib.Core.List.{_++_};
 ghost use Prim.Native.Nat.{_+_, _*_, _<_, _≤_};
-ghost use lib.ListN.{length, drop};
+ghost use lib.ListN.{length, set};
 ghost use lib.Ieee as Ieee;
 ghost use Rattle.grid.specs.Grid.{Sides, totalOf};
 ghost use Rattle.sample.specs.Figures.{figureOf, figuresOf, Measurable};
-ghost use Rattle.sample.specs.Columns.{columns, columnCount, figuresIn, Stored, Filled, RowFits};
+ghost use Rattle.sample.specs.Columns.{columnsIn, columnCount, figureIn, figuresIn, Stored, Filled, RowFits};
 ghost use Rattle.sample.specs.Bands.{bandOf, sampleOf};
-ghost use Rattle.sample.specs.Laid.{laidIn};
+ghost use Rattle.sample.specs.Laid.{gate32, square32, laidIn, Layable, Collectable};
 
 use window::WindowStats;
 
@@ -54,7 +53,7 @@ fn measure_row(img: &[u8], w: usize, y: usize, x: usize, s: usize, n: usize, int
 pub fn measure(img: &[u8], w: usize, h: usize, windows: usize, ints: &mut [i32]) -> usize
     requires { ⌜ Measurable (now img) w h windows (now ints) ⌝ }
     ensures { λ r. ⌜ (r ≡ totalOf w h windows)
-        × (now (ints .exit) ≡ columns (figuresOf (now (img .entry)) w h windows) ++ drop (columnCount * r) (now (ints .entry))) ⌝ }
+        × (now (ints .exit) ≡ columnsIn (figuresOf (now (img .entry)) w h windows) (now (ints .entry))) ⌝ }
 {
     let t = grid::total(w, h, windows);
     let s = grid::step(w, h, windows);
@@ -116,4 +115,54 @@ pub fn count(ints: &[i32], t: usize) -> Sample
         b3: b3,
         rail: rail,
     }
+}
+
+// Window k's gate, rounded once, at place i of floats, and its output, squared, half further on.
+fn lay(ints: &[i32], t: usize, k: usize, floats: &mut [f32], i: usize, half: usize)
+    requires { ⌜ (columnCount * t ≤ length (now ints)) × (k < t) × (half + i < length (now floats)) ⌝ }
+    ensures { λ _. ⌜ now (floats .exit)
+        ≡ set (set (now (floats .entry)) i (gate32 (figureIn t (now (ints .entry)) k))) (half + i) (square32 (figureIn t (now (ints .entry)) k)) ⌝ }
+{
+    let gate = ints[t + k];
+    let op = ints[2 * t + k];
+    let o = std::num::nearest_i32_to_f32(op);
+    floats[i] = std::num::nearest_i32_to_f32(gate);
+    floats[half + i] = o * o;
+}
+
+// The kept windows into floats, band after band: gates, one spare place, squared outputs.
+pub fn scatter(ints: &[i32], t: usize, s: Sample, floats: &mut [f32])
+    requires { ⌜ Layable t (now ints) s (now floats) ⌝ }
+    ensures { λ _. ⌜ now (floats .exit) ≡ laidIn (figuresIn t (now (ints .entry))) (now (floats .entry)) ⌝ }
+{
+    let b0 = s.b0;
+    let b1 = s.b1;
+    let b2 = s.b2;
+    let b3 = s.b3;
+    let kept = b0 + b1 + b2 + b3;
+    let mut next = [0, b0, b0 + b1, b0 + b1 + b2];
+    let mut k = 0;
+    while k < t {
+        let sum = ints[k];
+        let b = band(sum);
+        if b < 4 {
+            let i = next[b];
+            lay(ints, t, k, floats, i, kept + 1);
+            next[b] = i + 1;
+        }
+        k += 1;
+    }
+}
+
+// One pass: the windows of the grid measured into ints, counted, and the kept ones laid into floats.
+pub fn collect(img: &[u8], w: usize, h: usize, windows: usize, ints: &mut [i32], floats: &mut [f32]) -> Sample
+    requires { ⌜ Collectable (now img) w h windows (now ints) (now floats) ⌝ }
+    ensures { λ r. ⌜ (r ≡ sampleOf (figuresOf (now (img .entry)) w h windows))
+        × (now (ints .exit) ≡ columnsIn (figuresOf (now (img .entry)) w h windows) (now (ints .entry)))
+        × (now (floats .exit) ≡ laidIn (figuresOf (now (img .entry)) w h windows) (now (floats .entry))) ⌝ }
+{
+    let t = measure(img, w, h, windows, ints);
+    let s = count(ints, t);
+    scatter(ints, t, s, floats);
+    s
 }
