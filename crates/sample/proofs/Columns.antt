@@ -62,9 +62,10 @@ module _ (t i : ℕ) (l : List ℤ) (f : WindowStats) (h : i < t) where
 
   all-three : Stored t i f l three
   all-three = record {
-      each = each;
-      beyond = beyond-set t 2 two i (f .op) h (lit< tt) ∙ beyond-set t 1 one i (f .gate) h (lit< tt) ∙ beyond-set t 0 l i (f .sum) h (lit< tt);
-      long = length-set two (2 * t + i) (f .op) ∙ length-set one (1 * t + i) (f .gate) ∙ length-set l (0 * t + i) (f .sum) }
+    each = each;
+    beyond = beyond-set t 2 two i (f .op) h (lit< tt) ∙ beyond-set t 1 one i (f .gate) h (lit< tt) ∙ beyond-set t 0 l i (f .sum) h (lit< tt);
+    long = length-set two (2 * t + i) (f .op) ∙ length-set one (1 * t + i) (f .gate) ∙ length-set l (0 * t + i) (f .sum);
+  }
 
   -- as the code writes them
   pub stored : {a b d : ℤ} → a ≡ f .sum → b ≡ f .gate → d ≡ f .op → Stored t i f l (set (set (set l i a) (t + i) b) (2 * t + i) d)
@@ -72,8 +73,10 @@ module _ (t i : ℕ) (l : List ℤ) (f : WindowStats) (h : i < t) where
     where
       zeroth : i ≡ 0 * t + i
       zeroth = omega arith
+
       first : t + i ≡ 1 * t + i
       first = omega arith
+
       same : set (set (set l i a) (t + i) b) (2 * t + i) d ≡ three
       same =
           ap (λ (z : ℤ). set (set (set l i a) (t + i) b) (2 * t + i) z) r
@@ -102,6 +105,7 @@ from-column t k (suc n) l =
   where
     over : (k n : ℕ) → k + suc n ≡ suc k + n
     over k n = omega arith
+
     next : (k t : ℕ) → suc k * t ≡ k * t + t
     next k t = omega arith
 
@@ -126,6 +130,7 @@ joined-at rows t e j (suc n) zero k h g =
   where
     first : (t k : ℕ) → 0 * t + k ≡ k
     first t k = omega arith
+
     same : (j : ℕ) → j ≡ j + 0
     same j = omega arith
 joined-at rows t e j (suc n) (suc c) k h g =
@@ -136,6 +141,7 @@ joined-at rows t e j (suc n) (suc c) k h g =
   where
     past : (m : ℕ) → m ≡ t → suc c * t + k ≡ m + (c * t + k)
     past m p = omega arith
+
     over : (j c : ℕ) → suc j + c ≡ j + suc c
     over j c = omega arith
 
@@ -178,6 +184,7 @@ module _ (fs : List WindowStats) (old : List ℤ) where
     where
       first : (t k : ℕ) → k ≡ 0 * t + k
       first t k = omega arith
+
       second : (t k : ℕ) → t + k ≡ 1 * t + k
       second t k = omega arith
 

@@ -57,8 +57,16 @@ once (suc (suc (suc (suc (suc n))))) h = absurd (none n h)
 pub all-counted : (fs : List WindowStats) → countOf 0 fs + countOf 1 fs + countOf 2 fs + countOf 3 fs + countOf rail fs ≡ length fs
 all-counted [] = refl
 all-counted (f ∷ fs) =
-    omega (arith, all-counted fs, once (bandOf (f .sum)) (band-most (f .sum)),
-      count-cons 0 f fs, count-cons 1 f fs, count-cons 2 f fs, count-cons 3 f fs, count-cons rail f fs)
+    omega (
+      arith,
+      all-counted fs,
+      once (bandOf (f .sum)) (band-most (f .sum)),
+      count-cons 0 f fs,
+      count-cons 1 f fs,
+      count-cons 2 f fs,
+      count-cons 3 f fs,
+      count-cons rail f fs,
+    )
 
 pub kept-sum : (fs : List WindowStats) → keptOf fs ≡ countOf 0 fs + countOf 1 fs + countOf 2 fs + countOf 3 fs
 kept-sum fs =
@@ -85,7 +93,8 @@ counts s fs e =
       c1 = ap (λ (r : Sample). r .b1) e;
       c2 = ap (λ (r : Sample). r .b2) e;
       c3 = ap (λ (r : Sample). r .b3) e;
-      c4 = ap (λ (r : Sample). r .rail) e }
+      c4 = ap (λ (r : Sample). r .rail) e;
+    }
 
 -- ---- the loop that counts: n of band b are found in the first k of t windows
 

@@ -58,7 +58,8 @@ begin img w h windows s m t l p =
       left = omega (arith, ap (λ (n : ℕ). length (joined (rowOf w s) 0 n)) (all m), total-by w h windows s m (p .step) (p .rows), p .total);
       each = λ c g. rows-start;
       beyond = refl;
-      long = refl }
+      long = refl;
+    }
   where
     all : (n : ℕ) → n - 0 ≡ n
     all n = omega arith
@@ -72,9 +73,10 @@ module _ {img : List ℕ} {w s m t : ℕ} {l₀ l : List ℤ} {to j : ℕ} (i : 
   fits {h} {windows} {n} {x} p e f g a b =
       record {
         inside = λ k q. within k (inside-pixels w h (firstX j s + k * s) (j * s)
-          (inside-at w h s j k (step-some p) (subst (λ (u : ℕ). j < u) (p .rows) g) (subst (λ (u : ℕ). k < u) b q)));
+            (inside-at w h s j k (step-some p) (subst (λ (u : ℕ). j < u) (p .rows) g) (subst (λ (u : ℕ). k < u) b q)));
         room = omega (arith, room g);
-        columns = omega (arith, i .long) }
+        columns = omega (arith, i .long);
+      }
     where
       within : (k : ℕ) → j * s * w + (firstX j s + k * s) + 3 * w + 4 ≤ w * h → j * s * w + (x + k * s) + 3 * w + 4 ≤ length img
       within k q = subst (λ (u : ℕ). j * s * w + (u + k * s) + 3 * w + 4 ≤ length img) (sym a) (subst (λ (u : ℕ). j * s * w + (firstX j s + k * s) + 3 * w + 4 ≤ u) (sym e) q)
@@ -92,7 +94,8 @@ module _ {img : List ℕ} {w s m t : ℕ} {l₀ l : List ℤ} {to j : ℕ} (i : 
             left = omega (arith, i .left, total-more w s m j g);
             each = λ c h. rows-put (i .each c h) g (length-from (λ k. field c (figureOf img w (j * s) (firstX j s) s k)) 0 (rowCount w s j)) (omega (arith, room g, column-long t c l₀ h f)) (e .each c h);
             beyond = e .beyond ∙ i .beyond;
-            long = e .long ∙ i .long }
+            long = e .long ∙ i .long;
+          }
 
   -- at the end all of t is written
   full : m ≤ j → to ≡ t
@@ -109,8 +112,10 @@ module _ {img : List ℕ} {w s m t : ℕ} {l₀ l : List ℤ} {to j : ℕ} (i : 
     where
       places : joined (rowOf w s) 0 m ≡ placesOf w h windows
       places = places-by w h windows s m (p .step) (p .rows)
+
       none : (c : ℕ) → c < columnCount → drop to (column t c l₀) ≡ []
       none c q = drop-of-length-le (column t c l₀) {i = to} (omega (arith, full g, column-long t c l₀ q f))
+
       col : (c : ℕ) → c < columnCount → column t c l ≡ map (field c) (figuresOf img w h windows)
       col c q =
           rows-end (i .each c q) g

@@ -126,6 +126,7 @@ module _ {φ : WindowStats → Float} {a t : ℕ} {l : List ℤ} {out : List Flo
     where
       over : (a n : ℕ) → a + n + 1 ≡ a + (n + 1)
       over a n = omega arith
+
       own : Written φ a t l (set out (a + getD next b 0) v) (k + 1) b (a + getD (set next b (getD next b 0 + 1)) b 0)
       own =
           subst (λ (m : ℕ). Written φ a t l (set out (a + getD next b 0) v) (k + 1) b m)
@@ -133,8 +134,9 @@ module _ {φ : WindowStats → Float} {a t : ℕ} {l : List ℤ} {out : List Flo
           (segment-put room
           (subst (λ (m : List Float). Segment out (a + startOf (figuresIn t l) b) (a + getD next b 0) (map φ (ofBand b (figuresIn t l))) m)
           (ap (λ (m : List WindowStats). map φ (ofBand b m)) (from-more (figureIn t l) k t g) ∙ ap (map φ) (of-hit b (figureIn t l k) (rest t l (k + 1)) e)
-            ∙ ap (λ (x : Float). x ∷ map φ (ofBand b (rest t l (k + 1)))) (sym q))
+          ∙ ap (λ (x : Float). x ∷ map φ (ofBand b (rest t l (k + 1)))) (sym q))
           (i .each b h)))
+
       -- the place lies outside every other band's
       apart : (c : ℕ) → c < rail → (c ≡ b → ⊥) → (a + getD next b 0 < a + startOf (figuresIn t l) c) ⊎ (a + getD next c 0 ≤ a + getD next b 0)
       apart c w n = side (ltb b c) refl
@@ -145,12 +147,14 @@ module _ {φ : WindowStats → Float} {a t : ℕ} {l : List ℤ} {out : List Flo
             where
               less : c ≤ b → (c ≡ b → ⊥) → c < b
               less p n = omega arith
+
       other : (c : ℕ) → c < rail → (c ≡ b → ⊥) → Written φ a t l (set out (a + getD next b 0) v) (k + 1) c (a + getD (set next b (getD next b 0 + 1)) c 0)
       other c w n =
           subst (λ (m : ℕ). Written φ a t l (set out (a + getD next b 0) v) (k + 1) c m)
           (ap (λ (m : ℕ). a + m) (sym (getD-set-other next b c (getD next b 0 + 1) 0 n)))
           (segment-keep (a + getD next b 0) v (apart c w n)
           (subst (λ (m : List Float). Segment out (a + startOf (figuresIn t l) c) (a + getD next c 0) (map φ (ofBand c (figuresIn t l))) m) (same-rest c g (λ x. n (sym x ∙ e))) (i .each c w)))
+
       go : (c : ℕ) → c < rail → (x : Bool) → eqb c b ≡ x → Written φ a t l (set out (a + getD next b 0) v) (k + 1) c (a + getD (set next b (getD next b 0 + 1)) c 0)
       go c w true x =
           subst (λ (d : ℕ). Written φ a t l (set out (a + getD next b 0) v) (k + 1) d (a + getD (set next b (getD next b 0 + 1)) d 0)) (sym (eqb-true c b x)) own
@@ -161,7 +165,7 @@ module _ {φ : WindowStats → Float} {a t : ℕ} {l : List ℤ} {out : List Flo
   ended g b h =
       ap (λ (n : ℕ). take n (drop (a + startOf (figuresIn t l) b) out)) (sym (length-map (ofBand b (figuresIn t l)) φ))
       ∙ segment-end (subst (λ (m : List Float). Segment out (a + startOf (figuresIn t l) b) (a + getD next b 0) (map φ (ofBand b (figuresIn t l))) m)
-        (ap (λ (m : List WindowStats). map φ (ofBand b m)) (from-none (figureIn t l) k t g)) (i .each b h))
+      (ap (λ (m : List WindowStats). map φ (ofBand b m)) (from-none (figureIn t l) k t g)) (i .each b h))
 
   bands : t ≤ k → (b n : ℕ) → b + n ≡ rail
       → take (length (joined (λ c. ofBand c (figuresIn t l)) b n)) (drop (a + startOf (figuresIn t l) b) out) ≡ map φ (joined (λ c. ofBand c (figuresIn t l)) b n)
@@ -190,9 +194,11 @@ module _ {φ : WindowStats → Float} {a t : ℕ} {l : List ℤ} {out : List Flo
 pub half-start : (φ : WindowStats → Float) (a t : ℕ) (l : List ℤ) (out : List Float) (next : List ℕ)
     → ((b : ℕ) → b < rail → getD next b 0 ≡ startOf (figuresIn t l) b) → Half φ a t l out next 0
 half-start φ a t l out next e =
-    record { each = λ b h. subst (λ (m : ℕ). Written φ a t l out 0 b (a + m)) (sym (e b h))
-      (subst (λ (m : List WindowStats). Segment out (a + startOf (figuresIn t l) b) (a + startOf (figuresIn t l) b) (map φ (ofBand b (figuresIn t l))) (map φ (ofBand b m))) (all t l)
-      (segment-start out (a + startOf (figuresIn t l) b) (map φ (ofBand b (figuresIn t l))))) }
+    record {
+      each = λ b h. subst (λ (m : ℕ). Written φ a t l out 0 b (a + m)) (sym (e b h))
+          (subst (λ (m : List WindowStats). Segment out (a + startOf (figuresIn t l) b) (a + startOf (figuresIn t l) b) (map φ (ofBand b (figuresIn t l))) (map φ (ofBand b m))) (all t l)
+          (segment-start out (a + startOf (figuresIn t l) b) (map φ (ofBand b (figuresIn t l)))));
+    }
 
 -- ---- both halves, with the spare place between them and what lies beyond
 
@@ -225,10 +231,10 @@ halves : (n : ℕ) (x : List Float) → x ≡ take n (drop 0 x) ++ (take 1 (drop
 halves n x =
     sym (take-append-drop n x)
     ∙ ap (λ (y : List Float). take n x ++ y)
-      (sym (take-append-drop 1 (drop n x))
-      ∙ ap (λ (y : List Float). take 1 (drop n x) ++ y)
-        (drop-drop 1 n x ∙ sym (take-append-drop n (drop (n + 1) x))
-        ∙ ap (λ (y : List Float). take n (drop (n + 1) x) ++ y) (drop-drop n (n + 1) x ∙ ap (λ (m : ℕ). drop m x) (twice n))))
+    (sym (take-append-drop 1 (drop n x))
+    ∙ ap (λ (y : List Float). take 1 (drop n x) ++ y)
+    (drop-drop 1 n x ∙ sym (take-append-drop n (drop (n + 1) x))
+    ∙ ap (λ (y : List Float). take n (drop (n + 1) x) ++ y) (drop-drop n (n + 1) x ∙ ap (λ (m : ℕ). drop m x) (twice n))))
   where
     twice : (n : ℕ) → n + 1 + n ≡ 2 * n + 1
     twice n = omega arith
@@ -250,20 +256,24 @@ module _ {t : ℕ} {l : List ℤ} {old new : List Float} {next : List ℕ} {k : 
         four = length-set next b (getD next b 0 + 1) ∙ i .four;
         long = length-set (set new n v) (kept + 1 + n) u ∙ length-set new n v ∙ i .long;
         gates = half-keep
-          (subst (λ (m : ℕ). Half gate32 0 t l (set new m v) (set next b (n + 1)) (k + 1)) (none n) (half-hit (i .gates) b h g e p (i .four) (omega (arith, i .long, place))))
-          (kept + 1 + n) u (inr (omega arith));
+            (subst (λ (m : ℕ). Half gate32 0 t l (set new m v) (set next b (n + 1)) (k + 1)) (none n) (half-hit (i .gates) b h g e p (i .four) (omega (arith, i .long, place))))
+            (kept + 1 + n) u (inr (omega arith));
         squares = half-hit (half-keep (i .squares) n v (inl (omega (arith, place)))) b h g e q (i .four) (omega (arith, length-set new n v, i .long, place));
         spare =
-          spare-kept kept n (set new n v) u ∙ ap (λ (x : List Float). take 1 x) (drop-set-lt kept new n v place) ∙ i .spare;
+            spare-kept kept n (set new n v) u ∙ ap (λ (x : List Float). take 1 x) (drop-set-lt kept new n v place) ∙ i .spare;
         beyond =
-          drop-set-lt (2 * kept + 1) (set new n v) (kept + 1 + n) u (omega (arith, place)) ∙ drop-set-lt (2 * kept + 1) new n v (omega (arith, place)) ∙ i .beyond }
+            drop-set-lt (2 * kept + 1) (set new n v) (kept + 1 + n) u (omega (arith, place)) ∙ drop-set-lt (2 * kept + 1) new n v (omega (arith, place)) ∙ i .beyond;
+      }
     where
       kept : ℕ
       kept = keptOf (figuresIn t l)
+
       n : ℕ
       n = getD next b 0
+
       place : getD next b 0 < keptOf (figuresIn t l)
       place = place-kept (i .gates) b h g e
+
       none : (n : ℕ) → 0 + n ≡ n
       none n = omega arith
 

@@ -28,16 +28,18 @@ module _ {A : Type 0} where
       record {
         low = omega (arith, s .low);
         done =
-          ap (λ (n : ℕ). take n (drop a (set out i v)) ++ rest) (more a i (s .low))
-          ∙ ap (λ (n : ℕ). take (suc (i - a)) (drop a (set out n v)) ++ rest) (at a i (s .low))
-          ∙ ap (λ (l : List A). take (suc (i - a)) l ++ rest) (drop-set-add a out (i - a) v)
-          ∙ ap (λ (l : List A). l ++ rest) (take-suc-set (drop a out) (i - a) v (omega (arith, s .low, length-drop a out)))
-          ∙ append-snoc (take (i - a) (drop a out)) v rest
-          ∙ s .done;
-        ends = omega (arith, s .ends) }
+            ap (λ (n : ℕ). take n (drop a (set out i v)) ++ rest) (more a i (s .low))
+            ∙ ap (λ (n : ℕ). take (suc (i - a)) (drop a (set out n v)) ++ rest) (at a i (s .low))
+            ∙ ap (λ (l : List A). take (suc (i - a)) l ++ rest) (drop-set-add a out (i - a) v)
+            ∙ ap (λ (l : List A). l ++ rest) (take-suc-set (drop a out) (i - a) v (omega (arith, s .low, length-drop a out)))
+            ∙ append-snoc (take (i - a) (drop a out)) v rest
+            ∙ s .done;
+        ends = omega (arith, s .ends);
+      }
     where
       more : (a i : ℕ) → a ≤ i → i + 1 - a ≡ suc (i - a)
       more a i h = omega arith
+
       at : (a i : ℕ) → a ≤ i → i ≡ a + (i - a)
       at a i h = omega arith
 
@@ -46,6 +48,7 @@ module _ {A : Type 0} where
     where
       at : (a j : ℕ) → a ≤ j → j ≡ a + (j - a)
       at a j h = omega arith
+
       same : (j < a) ⊎ (i ≤ j) → take (i - a) (drop a (set out j v)) ≡ take (i - a) (drop a out)
       same (inl h) = ap (λ (l : List A). take (i - a) l) (drop-set-lt a out j v h)
       same (inr h) =

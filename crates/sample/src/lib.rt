@@ -8,11 +8,13 @@ ghost use Rattle.sample.specs.Figures.{figureOf, figuresOf, Measurable};
 ghost use Rattle.sample.specs.Columns.{columnsIn, columnCount, figureIn, figuresIn, Stored, Filled, RowFits};
 ghost use Rattle.sample.specs.Bands.{bandOf, sampleOf};
 ghost use Rattle.sample.specs.Laid.{gate32, square32, laidIn, Layable, Collectable};
-
 use window::WindowStats;
 
 // How many numbers of a window the i32 slice holds: sum, gate, operator output.
 pub const COLUMNS: usize = 3;
+
+// Intensity bands, by pixel sum: below 1,024, 2,048, 3,072 and above.
+pub const BANDS: usize = 4;
 
 // How many windows each band has, and how many are near the rails and dropped.
 pub struct Sample {
@@ -37,7 +39,17 @@ fn put(ints: &mut [i32], t: usize, i: usize, f: WindowStats)
 }
 
 // The n windows of the grid row at y, s apart from x on, into the columns from place `to` on.
-fn measure_row(img: &[u8], w: usize, y: usize, x: usize, s: usize, n: usize, ints: &mut [i32], t: usize, to: usize)
+fn measure_row(
+    img: &[u8],
+    w: usize,
+    y: usize,
+    x: usize,
+    s: usize,
+    n: usize,
+    ints: &mut [i32],
+    t: usize,
+    to: usize,
+)
     requires { ⌜ RowFits (now img) w y x s n t to (now ints) ⌝ }
     ensures { λ _. ⌜ Filled t to n (figureOf (now (img .entry)) w y x s) (now (ints .entry)) (now (ints .exit)) ⌝ }
 {
@@ -70,19 +82,19 @@ pub fn measure(img: &[u8], w: usize, h: usize, windows: usize, ints: &mut [i32])
     t
 }
 
-// The band of a window by its pixel sum, 4 near the rails, where clipping removes noise.
+// The band of a window by its pixel sum, or `BANDS` near the rails, where clipping removes noise.
 pub fn band(sum: i32) -> usize
     ensures { λ r. ⌜ r ≡ bandOf sum ⌝ }
 {
     if sum < 0 {
-        return 4;
+        return BANDS;
     }
     let n = sum as usize;
     if n < 192 {
-        return 4;
+        return BANDS;
     }
     if n > 3_888 {
-        return 4;
+        return BANDS;
     }
     n / 1_024
 }
@@ -105,7 +117,7 @@ pub fn count(ints: &[i32], t: usize) -> Sample
         b1 += (b == 1) as usize;
         b2 += (b == 2) as usize;
         b3 += (b == 3) as usize;
-        rail += (b == 4) as usize;
+        rail += (b == BANDS) as usize;
         k += 1;
     }
     Sample {
@@ -145,7 +157,7 @@ pub fn scatter(ints: &[i32], t: usize, s: Sample, floats: &mut [f32])
     while k < t {
         let sum = ints[k];
         let b = band(sum);
-        if b < 4 {
+        if b < BANDS {
             let i = next[b];
             lay(ints, t, k, floats, i, kept + 1);
             next[b] = i + 1;
@@ -155,7 +167,14 @@ pub fn scatter(ints: &[i32], t: usize, s: Sample, floats: &mut [f32])
 }
 
 // One pass: the windows of the grid measured into ints, counted, and the kept ones laid into floats.
-pub fn collect(img: &[u8], w: usize, h: usize, windows: usize, ints: &mut [i32], floats: &mut [f32]) -> Sample
+pub fn collect(
+    img: &[u8],
+    w: usize,
+    h: usize,
+    windows: usize,
+    ints: &mut [i32],
+    floats: &mut [f32],
+) -> Sample
     requires { ⌜ Collectable (now img) w h windows (now ints) (now floats) ⌝ }
     ensures { λ r. ⌜ (r ≡ sampleOf (figuresOf (now (img .entry)) w h windows))
         × (now (ints .exit) ≡ columnsIn (figuresOf (now (img .entry)) w h windows) (now (ints .entry)))

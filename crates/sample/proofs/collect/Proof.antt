@@ -12,11 +12,6 @@ use Rattle.sample.proofs.Columns.{read-back}
 use borrow.Author.Needs.{needs}
 use Rattle.sample.proofs.collect.Statement.{statement}
 use Rattle.sample.proofs.collect.Tie as tie
-use Rattle.sample.proofs.collect.Reads as reads
-use Rattle.sample.proofs.collect.Lts as lts
-use Rattle.sample.proofs.count.Reads as count-reads
-use Rattle.sample.proofs.measure.Reads as measure-reads
-use Rattle.sample.proofs.scatter.Reads as scatter-reads
 
 measure-requires : tie.Need-measure-requires
 measure-requires c κs = search needs
@@ -38,10 +33,11 @@ returns c =
     let s = c .before .before .before .before .before .before .before .before .before .before .before .before in
     let m = c .before .before .before .before .before .before .before .before .measure .ensures in
     let fs = figuresOf (now (s .args .img)) (s .args .w) (s .args .h) (s .args .windows) in
-    let e = read-back fs (now (s .args .ints)) (m .0 ∙ sym (length-map (placesOf (s .args .w) (s .args .h) (s .args .windows)) (figureAt (now (s .args .img)) (s .args .w)))) (m .1) in
-    (c .before .before .before .before .before .count .ensures ∙ ap sampleOf e,
-     m .1,
-     c .before .before .scatter .ensures ∙ ap (λ (x : List WindowStats). laidIn x (now (s .args .floats))) e)
+    let e = read-back fs (now (s .args .ints)) (m .0 ∙ sym (length-map (placesOf (s .args .w) (s .args .h) (s .args .windows)) (figureAt (now (s .args .img)) (s .args .w)))) (m .1) in (
+      c .before .before .before .before .before .count .ensures ∙ ap sampleOf e,
+      m .1,
+      c .before .before .scatter .ensures ∙ ap (λ (x : List WindowStats). laidIn x (now (s .args .floats))) e,
+    )
 
 pub collect-spec : {M : Type 1} → statement M
 collect-spec =

@@ -11,9 +11,6 @@ use Rattle.sample.specs.Laid.{gate32, square32}
 use borrow.Author.Needs.{needs}
 use Rattle.sample.proofs.lay.Statement.{statement}
 use Rattle.sample.proofs.lay.Tie as tie
-use Rattle.sample.proofs.lay.Reads as reads
-use Rattle.sample.proofs.lay.Lts as lts
-use Rattle.std.proofs.num.nearest_i32_to_f32.Reads as nearest-i32-to-f32-reads
 
 add-gate : tie.Need-add-gate
 add-gate c = search needs

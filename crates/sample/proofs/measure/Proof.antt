@@ -10,14 +10,6 @@ use Rattle.sample.specs.Columns.{columnCount}
 use Rattle.sample.proofs.Measuring.{Pass, step-some, step-small, rows-few, Measuring, begin, room, fits, turn, done}
 use Rattle.sample.proofs.measure.Statement.{statement}
 use Rattle.sample.proofs.measure.Tie as tie
-use Rattle.sample.proofs.measure.Reads as reads
-use Rattle.sample.proofs.measure.Lts as lts
-use Rattle.grid.proofs.first_x.Reads as first-x-reads
-use Rattle.grid.proofs.row_count.Reads as row-count-reads
-use Rattle.grid.proofs.rows.Reads as rows-reads
-use Rattle.grid.proofs.step.Reads as step-reads
-use Rattle.grid.proofs.total.Reads as total-reads
-use Rattle.sample.proofs.measure_row.Reads as measure-row-reads
 
 abbrev Inv-loop : tie.InvT-loop
 Inv-loop img w h windows ints₀ t s m to₀ j₀ ints to j = Pass w h windows t s m × Measuring img w s m t ints₀ ints to j
@@ -40,7 +32,7 @@ loop-holds : tie.Need-loop-holds Inv-loop μ-loop
 loop-holds c =
     let s = c .before .before .before .before in
     let p : Pass (s .args .w) (s .args .h) (s .args .windows) (c .before .before .total .result) (c .before .step .result) (c .rows .result) =
-      record { sides = s .pre .sides; some = s .pre .some; total = c .before .before .total .ensures; step = c .before .step .ensures; rows = c .rows .ensures } in
+    record { sides = s .pre .sides; some = s .pre .some; total = c .before .before .total .ensures; step = c .before .step .ensures; rows = c .rows .ensures } in
     (p, begin (now (s .args .img)) (s .args .w) (s .args .h) (s .args .windows) (c .before .step .result) (c .rows .result) (c .before .before .total .result) (now (s .args .ints)) p)
 
 -- j and the step are small
@@ -79,9 +71,10 @@ loop-less c = omega (arith, c .before .before .before .before .before .loop-test
 
 loop-again : tie.Need-loop-again Inv-loop μ-loop
 loop-again c =
-    let l = c .before .before .before .before .before .before in
-    (l .loop .inv .0,
-     turn (l .loop .inv .1) (enough l) (c .before .before .before .before .before .loop-test .taken) (c .before .before .before .before .first-x .ensures) (c .before .before .before .row-count .ensures) (c .before .measure-row .ensures))
+    let l = c .before .before .before .before .before .before in (
+      l .loop .inv .0,
+      turn (l .loop .inv .1) (enough l) (c .before .before .before .before .before .loop-test .taken) (c .before .before .before .before .first-x .ensures) (c .before .before .before .row-count .ensures) (c .before .measure-row .ensures),
+    )
 
 same-length : tie.Need-same-length Inv-loop μ-loop
 same-length c = c .before .loop .inv .1 .long

@@ -13,10 +13,6 @@ use Rattle.sample.specs.Columns.{columnCount, field, column}
 use Rattle.sample.proofs.Columns.{column-long}
 use Rattle.sample.proofs.measure_row.Statement.{statement}
 use Rattle.sample.proofs.measure_row.Tie as tie
-use Rattle.sample.proofs.measure_row.Reads as reads
-use Rattle.sample.proofs.measure_row.Lts as lts
-use Rattle.sample.proofs.put.Reads as put-reads
-use Rattle.window.proofs.window.Reads as window-reads
 
 record Inv (img : List ℕ) (w y x s n : ℕ) (l₀ : List ℤ) (t to : ℕ) (l : List ℤ) (k : ℕ) : Type 0 where
   low : k ≤ n
@@ -36,7 +32,7 @@ loop-holds c = record { low = omega arith; each = λ i h. row-start; beyond = re
 -- window k lies inside the image
 inside : (c : tie.In-loop Inv-loop μ-loop)
     → c .before .before .before .args .y * c .before .before .before .args .w + (c .before .before .before .args .x + c .before .loop .k * c .before .before .before .args .s)
-      + 3 * c .before .before .before .args .w + 4 ≤ length (now (c .before .before .before .args .img))
+    + 3 * c .before .before .before .args .w + 4 ≤ length (now (c .before .before .before .args .img))
 inside c = c .before .before .before .pre .inside (c .before .loop .k) (c .loop-test .taken)
 
 mul-window : tie.Need-mul-window Inv-loop μ-loop
@@ -80,9 +76,10 @@ loop-again c =
     record {
       low = omega (arith, k);
       each = λ j h. subst (λ (l : List ℤ). Row (λ i. field j (figureOf (now (s .args .img)) (s .args .w) (s .args .y) (s .args .x) (s .args .s) i)) (column (s .args .t) j (now (s .args .ints))) (s .args .to) (s .args .n) (c .before .before .before .before .before .loop .k + 1) l)
-        (sym (e .each j h)) (row-put (i .each j h) k (room s j h) (ap (field j) (c .before .before .before .window .ensures)));
+          (sym (e .each j h)) (row-put (i .each j h) k (room s j h) (ap (field j) (c .before .before .before .window .ensures)));
       beyond = e .beyond ∙ i .beyond;
-      long = e .long ∙ i .long }
+      long = e .long ∙ i .long;
+    }
 
 same-length : tie.Need-same-length Inv-loop μ-loop
 same-length c = c .before .loop .inv .long

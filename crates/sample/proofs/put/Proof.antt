@@ -7,8 +7,6 @@ use Rattle.sample.proofs.Columns.{stored}
 use borrow.Author.Needs.{needs}
 use Rattle.sample.proofs.put.Statement.{statement}
 use Rattle.sample.proofs.put.Tie as tie
-use Rattle.sample.proofs.put.Reads as reads
-use Rattle.sample.proofs.put.Lts as lts
 
 mul-sum : tie.Need-mul-sum
 mul-sum c = search needs

@@ -17,10 +17,6 @@ use Rattle.sample.proofs.Counting.{Counts, counts}
 use Rattle.sample.proofs.Scattering.{Scattering, starts, kept-by, kept-room, place-kept, scatter-start, scatter-hit, scatter-miss, scatter-end}
 use Rattle.sample.proofs.scatter.Statement.{statement}
 use Rattle.sample.proofs.scatter.Tie as tie
-use Rattle.sample.proofs.scatter.Reads as reads
-use Rattle.sample.proofs.scatter.Lts as lts
-use Rattle.sample.proofs.band.Reads as band-reads
-use Rattle.sample.proofs.lay.Reads as lay-reads
 
 abbrev Inv-loop : tie.InvT-loop
 Inv-loop ints t floats₀ b0 b1 b2 b3 kept next₀ k₀ floats next k = Scattering t ints floats₀ floats next k
@@ -123,7 +119,7 @@ loop-again c =
     let k = c .before .before .before .loop-test .taken in
     ⊎-elim
     (λ w. moved (w .5 ∙ w .2 .ensures ∙ ap (λ (m : ℕ). set (set (l .loop .floats) n (gate32 f)) (m + 1 + n) (square32 f)) (sum-is s)) (w .6)
-      (scatter-hit i k (c .before .band .result) (w .0 .taken) (band-is (c .before)) (omega (arith, space s)) refl refl))
+    (scatter-hit i k (c .before .band .result) (w .0 .taken) (band-is (c .before)) (omega (arith, space s)) refl refl))
     (λ w. moved (w .1) (w .2) (scatter-miss i k (subst (λ (n : ℕ). rail ≤ n) (sym (band-is (c .before))) (w .0 .left))))
     (c .if1 .came)
 
