@@ -1,0 +1,4 @@
+-- Laws on supports, on refusals and on sums of products.
+pub mod Places
+pub mod Refusals
+pub mod Sums
