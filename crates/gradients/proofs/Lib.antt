@@ -2,3 +2,5 @@
 pub mod Places
 pub mod Refusals
 pub mod Sums
+pub mod Laws
+pub mod Examples

@@ -1,19 +1,19 @@
 -- Where a pixel lies from an origin on: the machine's difference at 64 bits is the number, and its tests are those of `past`. Assumes nothing.
 use mathlib.Core.Path.{_≡_, refl, sym, ap, _∙_, subst}
 use mathlib.Core.Bool.{Bool, true, false, _&&_}
-use Prim.Native.Nat.{ℕ, suc, _+_, _*_, _≤_, _<_, min}
+use mathlib.Core.List.{List}
+use Prim.Native.Nat.{ℕ, suc, _+_, _*_, _≤_, _<_}
 use native.Mathlib.Nat.{min-eq-left, min-eq-right, le-of-lt, mul-le-mul, mul-le-mul-right}
 use native.Mathlib.Omega.{arith}
-use borrow.Author.Tests.{le-ltb}
 use lib.Dec.{T, leb, leb·suc-suc}
 use lib.Ieee.{Float}
 use lib.ListN.{length, take, length-take}
-use mathlib.Core.List.{List}
 use lib.IntN.{ℤ, pos, negsuc, natAbs, _-ℤ_}
 use lib.Signed.{mag, ltZ, leZ, nonNeg}
 use mir.Syntax.{w32, w64}
 use mir.Val.{SFits, Fits, toZ, ofZ}
 use mir.Facts.{toZ-ofZ, sfits-widen, fits-natAbs}
+use borrow.Author.Tests.{le-ltb}
 use Rattle.laws.proofs.Machine.{abs-sub-le, held-of}
 use Rattle.gradients.specs.Ranges.{near, past, offset}
 

@@ -45,7 +45,7 @@ fn state_number(origin: [i32; 2], side: usize) -> u32
 }
 
 // How far x lies past o, or `side` where that isn't one of the `side` places from o on.
-fn place(x: i32, o: i32, side: usize) -> usize
+fn offset(x: i32, o: i32, side: usize) -> usize
     ensures { λ r. ⌜ r ≡ offset x o side ⌝ }
 {
     let d = (x as i64) - (o as i64);
@@ -113,8 +113,8 @@ impl PixelGradients {
                 state: self,
             };
         }
-        let i = place(x, origin[0], side);
-        let j = place(y, origin[1], side);
+        let i = offset(x, origin[0], side);
+        let j = offset(y, origin[1], side);
         if !((i < side) & (j < side)) {
             return Handed {
                 number: 11,
@@ -143,37 +143,37 @@ impl PixelGradients {
         let n = side * side;
         let gx = self.gx;
         let gy = self.gy;
-        gram_of(&gx[..n], &gy[..n])
+        gram(&gx[..n], &gy[..n])
     }
 }
 
 // The sum of g by its transpose over gradients g = (gx, gy).
-fn gram_of(gx: &[f32], gy: &[f32]) -> Judged
+fn gram(gx: &[f32], gy: &[f32]) -> Judged
     requires { ⌜ length (now gx) ≡ length (now gy) ⌝ }
     ensures { λ r. ⌜ r ≡ judged (gram (now (gx .entry)) (now (gy .entry))) ⌝ }
 {
-    PositionCovariance::new(total_of(gx, gx), total_of(gx, gy), total_of(gy, gy)).finite()
+    PositionCovariance::new(total(gx, gx), total(gx, gy), total(gy, gy)).finite()
 }
 
 // One component of the sum.
-fn total_of(a: &[f32], b: &[f32]) -> f32
+fn total(a: &[f32], b: &[f32]) -> f32
     requires { ⌜ length (now a) ≡ length (now b) ⌝ }
     ensures { λ r. ⌜ r ≡ total (now (a .entry)) (now (b .entry)) ⌝ }
 {
-    let p = partials_of(a, b);
+    let p = partials(a, b);
     let p0 = with_rest(a, b, p.p0);
     float::to_f32((p0 + p.p1) + (p.p2 + p.p3))
 }
 
 // Four partial sums, so that the additions don't wait on one chain.
-struct Partials {
+struct Four {
     p0: f64,
     p1: f64,
     p2: f64,
     p3: f64,
 }
 
-fn partials_of(a: &[f32], b: &[f32]) -> Partials
+fn partials(a: &[f32], b: &[f32]) -> Four
     requires { ⌜ length (now a) ≡ length (now b) ⌝ }
     ensures { λ r. ⌜ FourSums (now (a .entry)) (now (b .entry)) (length (now (a .entry)) / 4) (r .p0) (r .p1) (r .p2) (r .p3) ⌝ }
 {
@@ -185,13 +185,13 @@ fn partials_of(a: &[f32], b: &[f32]) -> Partials
     let mut k = 0;
     while k < fours {
         let i = k * 4;
-        p0 = p0 + product_of(a, b, i);
-        p1 = p1 + product_of(a, b, i + 1);
-        p2 = p2 + product_of(a, b, i + 2);
-        p3 = p3 + product_of(a, b, i + 3);
+        p0 = p0 + product(a, b, i);
+        p1 = p1 + product(a, b, i + 1);
+        p2 = p2 + product(a, b, i + 2);
+        p3 = p3 + product(a, b, i + 3);
         k += 1;
     }
-    Partials { p0, p1, p2, p3 }
+    Four { p0, p1, p2, p3 }
 }
 
 // s, and what is left past the whole fours added to it.
@@ -205,14 +205,14 @@ fn with_rest(a: &[f32], b: &[f32], s: f64) -> f64
     let mut k = 0;
     while k < rest {
         let i = first + k;
-        sum = sum + product_of(a, b, i);
+        sum = sum + product(a, b, i);
         k += 1;
     }
     sum
 }
 
 // The product at place i, exact in f64.
-fn product_of(a: &[f32], b: &[f32], i: usize) -> f64
+fn product(a: &[f32], b: &[f32], i: usize) -> f64
     requires { ⌜ (i < length (now a)) × (i < length (now b)) ⌝ }
     ensures { λ r. ⌜ r ≡ product (now (a .entry)) (now (b .entry)) i ⌝ }
 {

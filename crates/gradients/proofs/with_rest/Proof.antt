@@ -1,18 +1,13 @@
-use Prim.Native.Nat.{_+_, _*_, _/_, _%_}
+-- Each turn takes the next product to the one sum. Assumes nothing.
+use mathlib.Core.Path.{_≡_, refl}
+use Prim.Native.Nat.{_+_, _*_, _/_, _%_, _≤_, _-_}
+use native.Mathlib.Omega.{arith}
 use lib.ListN.{length}
 use denote.Ref.{now}
-use mathlib.Core.Path.{_≡_, refl}
-use Prim.Native.Nat.{_≤_, _-_}
-use native.Mathlib.Omega.{arith}
 use Rattle.gradients.specs.Gram.{along}
 use Rattle.gradients.proofs.Sums.{along-more, along-end}
 use Rattle.gradients.proofs.with_rest.Statement.{statement}
 use Rattle.gradients.proofs.with_rest.Tie as tie
-use Rattle.gradients.proofs.with_rest.Reads as reads
-use Rattle.gradients.proofs.with_rest.Lts as lts
-use Rattle.gradients.proofs.product_of.Reads as product-of-reads
-
-
 
 abbrev Inv-loop : tie.InvT-loop
 Inv-loop a b s first rest sum₀ k₀ sum k = (k ≤ rest) × (sum ≡ along a b 1 first s k)
@@ -20,37 +15,29 @@ Inv-loop a b s first rest sum₀ k₀ sum k = (k ≤ rest) × (sum ≡ along a b
 abbrev μ-loop : tie.MeasureT-loop
 μ-loop a b s first rest sum₀ k₀ sum k = rest - k
 
--- src/lib.rt:202:17
 mul-first : tie.Need-mul-first Inv-loop μ-loop
 mul-first c = omega arith
 
--- src/lib.rt:206:5
 loop-holds : tie.Need-loop-holds Inv-loop μ-loop
 loop-holds c = (omega arith, refl)
 
--- src/lib.rt:207:17
 add-i : tie.Need-add-i Inv-loop μ-loop
 add-i c = omega arith
 
--- src/lib.rt:208:21
-product-of-requires : tie.Need-product-of-requires Inv-loop μ-loop
-product-of-requires c κs = (omega arith, omega arith)
+product-requires : tie.Need-product-requires Inv-loop μ-loop
+product-requires c κs = (omega arith, omega arith)
 
--- src/lib.rt:209:9
 add-k : tie.Need-add-k Inv-loop μ-loop
 add-k c = omega arith
 
--- src/lib.rt:206:5
 loop-less : tie.Need-loop-less Inv-loop μ-loop
 loop-less c = omega arith
 
--- src/lib.rt:206:5
 loop-again : tie.Need-loop-again Inv-loop μ-loop
-loop-again c = 
+loop-again c =
     let l = c .before .before in let s = l .before .before .before in let n = length (now (s .args .a)) in
-    (omega arith, along-more _ _ 1 (n / 4 * 4) (s .args .s) (l .loop .k) (n / 4 * 4 + l .loop .k) (l .loop .inv .1) (omega arith) (c .product-of .ensures))
+    (omega arith, along-more _ _ 1 (n / 4 * 4) (s .args .s) (l .loop .k) (n / 4 * 4 + l .loop .k) (l .loop .inv .1) (omega arith) (c .product .ensures))
 
--- src/lib.rt:198:1
 returns : tie.Need-returns Inv-loop μ-loop
 returns c =
     let l = c .before in let s = l .before .before .before in let n = length (now (s .args .a)) in
@@ -65,7 +52,7 @@ with-rest-spec =
     mul-first
     loop-holds
     add-i
-    product-of-requires
+    product-requires
     add-k
     loop-less
     loop-again

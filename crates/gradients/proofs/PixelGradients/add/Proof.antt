@@ -1,7 +1,7 @@
 -- Each way out has its number, by the tests before it, and the last one stores both sums at the pixel's cell. Assumes nothing.
 use mathlib.Core.Path.{_≡_, sym, ap, _∙_}
-use mathlib.Core.Bool.{Bool, true, false, _&&_}
-use Prim.Native.Nat.{ℕ, _+_, _*_, _<_, _≤_}
+use mathlib.Core.Bool.{_&&_}
+use Prim.Native.Nat.{ℕ, _+_, _*_}
 use lib.Dec.{ltb}
 use lib.IntN.{pos}
 use lib.ListN.{getD}
@@ -10,9 +10,9 @@ use borrow.Author.Needs.{needs}
 use borrow.Author.Tests.{not-true, not-false, ltb-true}
 use Rattle.ieee.specs.Order.{finite}
 use Rattle.gradients.specs.Ranges.{stateNumber}
-use Rattle.gradients.specs.Gradients.{column, row, added, addOf}
+use Rattle.gradients.specs.Gradients.{column, row}
 use Rattle.gradients.proofs.Places.{place-held}
-use Rattle.gradients.proofs.Refusals.{and, and-left, and-right, small, kept, changed, add-state, add-12, add-11, add-0}
+use Rattle.gradients.proofs.Refusals.{and, and-left, and-right, small, add-state, add-12, add-11, add-0}
 use Rattle.gradients.proofs.PixelGradients.add.Statement.{statement}
 use Rattle.gradients.proofs.PixelGradients.add.Tie as tie
 
@@ -24,15 +24,15 @@ no-number c = sym (c .if1 .left) ∙ c .before .state-number .ensures
 finites : (c : tie.After-is-finite322) → let v = c .before .before .before .before .before .args .t4 in finite (getD v 0 nan) && finite (getD v 1 nan) ≡ c .before .is-finite32 .result && c .is-finite322 .result
 finites c = and (sym (c .before .is-finite32 .ensures)) (sym (c .is-finite322 .ensures))
 
-column-is : (c : tie.After-place) → let a = c .before .before .before .before .before .before .before .before .args in c .place .result ≡ column (a .t1) (a .x)
-column-is c = let a = c .before .before .before .before .before .before .before .before in place-held (a .args .x) (getD (a .args .t1 .origin) 0 (pos 0)) (a .args .t1 .side) (a .fits .x) (c .before .place-arg .given) (c .place .ensures)
+column-is : (c : tie.After-offset) → let a = c .before .before .before .before .before .before .before .before .args in c .offset .result ≡ column (a .t1) (a .x)
+column-is c = let a = c .before .before .before .before .before .before .before .before in place-held (a .args .x) (getD (a .args .t1 .origin) 0 (pos 0)) (a .args .t1 .side) (a .fits .x) (c .before .offset-arg .given) (c .offset .ensures)
 
-row-is : (c : tie.After-place2) → let a = c .before .before .before .before .before .before .before .before .before .before .args in c .place2 .result ≡ row (a .t1) (a .y)
-row-is c = let a = c .before .before .before .before .before .before .before .before .before .before in place-held (a .args .y) (getD (a .args .t1 .origin) 1 (pos 0)) (a .args .t1 .side) (a .fits .y) (c .before .place-arg2 .given) (c .place2 .ensures)
+row-is : (c : tie.After-offset2) → let a = c .before .before .before .before .before .before .before .before .before .before .args in c .offset2 .result ≡ row (a .t1) (a .y)
+row-is c = let a = c .before .before .before .before .before .before .before .before .before .before in place-held (a .args .y) (getD (a .args .t1 .origin) 1 (pos 0)) (a .args .t1 .side) (a .fits .y) (c .before .offset-arg2 .given) (c .offset2 .ensures)
 
 -- the two tests of the pixel
-insides : (c : tie.After-place2) → let a = c .before .before .before .before .before .before .before .before .before .before .args in
-    ltb (column (a .t1) (a .x)) (a .t1 .side) && ltb (row (a .t1) (a .y)) (a .t1 .side) ≡ ltb (c .before .before .place .result) (a .t1 .side) && ltb (c .place2 .result) (a .t1 .side)
+insides : (c : tie.After-offset2) → let a = c .before .before .before .before .before .before .before .before .before .before .args in
+    ltb (column (a .t1) (a .x)) (a .t1 .side) && ltb (row (a .t1) (a .y)) (a .t1 .side) ≡ ltb (c .before .before .offset .result) (a .t1 .side) && ltb (c .offset2 .result) (a .t1 .side)
 insides c =
     let n = c .before .before .before .before .before .before .before .before .before .before .args .t1 .side in
     and (ap (λ (k : ℕ). ltb k n) (sym (column-is (c .before .before)))) (ap (λ (k : ℕ). ltb k n) (sym (row-is c)))
@@ -65,17 +65,17 @@ returns-2 c =
     let b = c .before in let e = b .before .before in let a = e .before .before .before .args in
     add-12 (a .t1) (a .x) (a .y) (a .t4) (no-number e) (finites b ∙ not-true _ (c .if2 .taken))
 
-array-copy-out-place : tie.Need-array-copy-out-place
-array-copy-out-place c = search needs
+array-copy-out-offset : tie.Need-array-copy-out-offset
+array-copy-out-offset c = search needs
 
-place-requires : tie.Need-place-requires
-place-requires c κs = search needs
+offset-requires : tie.Need-offset-requires
+offset-requires c κs = search needs
 
-array-copy-out-place-2 : tie.Need-array-copy-out-place-2
-array-copy-out-place-2 c = search needs
+array-copy-out-offset-2 : tie.Need-array-copy-out-offset-2
+array-copy-out-offset-2 c = search needs
 
-place-requires-2 : tie.Need-place-requires-2
-place-requires-2 c κs = search needs
+offset-requires-2 : tie.Need-offset-requires-2
+offset-requires-2 c κs = search needs
 
 returns-3 : tie.Need-returns-3
 returns-3 c =
@@ -84,7 +84,7 @@ returns-3 c =
 
 index-requires : tie.Need-index-requires
 index-requires c κs =
-    let i = c .before .before .before .place .result in let j = c .before .place2 .result in
+    let i = c .before .before .before .offset .result in let j = c .before .offset2 .result in
     let n = c .before .before .before .before .before .before .before .before .before .before .before .args .t1 .side in
     let h = not-false _ (c .if3 .left) in
     (ltb-true i n (and-left (ltb i n) (ltb j n) h), ltb-true j n (and-right (ltb i n) (ltb j n) h), small _ _ (sym (no-number (c .before .before .before .before .before .before .before .before))))
@@ -136,10 +136,10 @@ add-spec =
     array-read-is-finite32-2
     is-finite32-requires-2
     returns-2
-    array-copy-out-place
-    place-requires
-    array-copy-out-place-2
-    place-requires-2
+    array-copy-out-offset
+    offset-requires
+    array-copy-out-offset-2
+    offset-requires-2
     returns-3
     index-requires
     mul-self

@@ -1,6 +1,6 @@
 -- The gram of the first side * side cells of each column, which has 1,024 of them. Assumes nothing.
 use mathlib.Core.Path.{_≡_, sym, _∙_}
-use Prim.Native.Nat.{ℕ, _*_, _≤_}
+use Prim.Native.Nat.{_*_, _≤_}
 use native.Mathlib.Omega.{arith}
 use lib.ListN.{length, length-map}
 use borrow.Author.Needs.{needs}
@@ -38,22 +38,22 @@ mul-n c = omega (arith, few c)
 array-share-prefix-gx : tie.Need-array-share-prefix-gx
 array-share-prefix-gx c = omega (arith, few (c .before .before), gx-long (c .before .before .before .before .before))
 
-slice-aggregate-gram-of : tie.Need-slice-aggregate-gram-of
-slice-aggregate-gram-of c = taken-long _ _ (few (c .before .before .before)) (gx-long (c .before .before .before .before .before .before))
+slice-aggregate-gram : tie.Need-slice-aggregate-gram
+slice-aggregate-gram c = taken-long _ _ (few (c .before .before .before)) (gx-long (c .before .before .before .before .before .before))
 
 array-share-prefix-gy : tie.Need-array-share-prefix-gy
 array-share-prefix-gy c = omega (arith, few (c .before .before .before), gy-long (c .before .before .before .before .before .before))
 
-slice-aggregate-gram-of-2 : tie.Need-slice-aggregate-gram-of-2
-slice-aggregate-gram-of-2 c = taken-long _ _ (few (c .before .before .before .before)) (gy-long (c .before .before .before .before .before .before .before))
+slice-aggregate-gram-2 : tie.Need-slice-aggregate-gram-2
+slice-aggregate-gram-2 c = taken-long _ _ (few (c .before .before .before .before)) (gy-long (c .before .before .before .before .before .before .before))
 
-gram-of-requires : tie.Need-gram-of-requires
-gram-of-requires c κs =
+gram-requires : tie.Need-gram-requires
+gram-requires c κs =
     let e = c .before .before .before .before in
     sym (taken-long _ _ (few e) (gx-long (e .before .before .before))) ∙ taken-long _ _ (few e) (gy-long (e .before .before .before))
 
 returns-2 : tie.Need-returns-2
-returns-2 c = c .gram-of .ensures ∙ covariance-0 _ (no-number (c .before .before .before .before .before))
+returns-2 c = c .gram .ensures ∙ covariance-0 _ (no-number (c .before .before .before .before .before))
 
 pub covariance-spec : {M : Type 1} → statement M
 covariance-spec =
@@ -63,8 +63,8 @@ covariance-spec =
     returns
     mul-n
     array-share-prefix-gx
-    slice-aggregate-gram-of
+    slice-aggregate-gram
     array-share-prefix-gy
-    slice-aggregate-gram-of-2
-    gram-of-requires
+    slice-aggregate-gram-2
+    gram-requires
     returns-2)
