@@ -24,6 +24,11 @@ use Rattle.gradients.proofs.Refusals.{small, covariance-0}
 
 -- ---- a pixel lies in the n places from o on exactly where it is o + i for some i below n
 
+-- the difference is that of whole numbers: at 32 bits this one would wrap to 1
+pub no-wrap : offset (negsuc 2147483647) (pos 2147483647) 32 ≡ 32
+unfolding past
+no-wrap = refl
+
 pub in-place : (o : ℤ) (i n : ℕ) → i < n → offset (o +ℤ pos i) o n ≡ i
 unfolding past
 in-place o i n h = ap (λ (z : ℤ). past z n) (ap (λ (z : ℤ). z -ℤ o) (+ℤ-comm o (pos i)) ∙ +ℤ-negℤ-cancel (pos i) o) ∙ min-eq-left (le-of-lt h)

@@ -12,7 +12,7 @@ state-number-requires c κs = search needs
 
 returns : tie.Need-returns
 unfolding resetOf
-returns c = let a = c .before .before .args in kept (a .self) (cleared (a .origin) (a .side)) (c .before .state-number .result) (c .if1 .taken) (c .before .state-number .ensures)
+returns c = let a = c .before .before .args in kept (a .self) _ (c .before .state-number .result) (c .if1 .taken) (c .before .state-number .ensures)
 
 returns-2 : tie.Need-returns-2
 unfolding resetOf ofBits
