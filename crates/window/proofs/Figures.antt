@@ -2,14 +2,14 @@
 use mathlib.Core.Path.{_≡_, refl, sym, ap, _∙_, subst}
 use mathlib.Core.List.{List}
 use Prim.Native.Nat.{ℕ, _≤_, _<_}
-use lib.Dec.{T}
+use lib.Dec.{T, lit<}
 use lib.IntN.{ℤ, pos, natAbs}
 use lib.ListN.{getD}
 use lib.Signed.{nonNeg, _≤ℤ_}
 use Rattle.window.specs.Window.{Window, Pixels, pixelsAt, gate, gateMost, statsOf}
 use Rattle.window.specs.declared.WindowStats.{WindowStats}
 use Rattle.window.proofs.Same.{stats-alike}
-use Rattle.window.proofs.Bounds.{bound, sum-bound}
+use Rattle.window.proofs.Bounds.{component-within}
 use Rattle.window.proofs.Most.{gate-is, gate-most}
 
 -- bytes are pixels
@@ -30,7 +30,7 @@ module _ (p : Window) (e : Pixels p) where
 
   pub sum-within : natAbs (statsOf p .sum) ≤ 4080
   unfolding statsOf
-  sum-within = sum-bound p e
+  sum-within = component-within p e 0 0 (lit< tt) (lit< tt)
 
   pub gate-positive : T (nonNeg (statsOf p .gate))
   unfolding statsOf
@@ -42,4 +42,4 @@ module _ (p : Window) (e : Pixels p) where
 
   pub output-within : natAbs (statsOf p .op) ≤ 8160
   unfolding statsOf
-  output-within = bound p e 3 3 8160 tt tt
+  output-within = component-within p e 3 3 (lit< tt) (lit< tt)

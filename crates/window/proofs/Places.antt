@@ -20,6 +20,12 @@ below4 Q a b c d (suc (suc (suc (suc n)))) h = absurd (beyond n h)
     beyond : (n : ℕ) → suc (suc (suc (suc n))) < 4 → ⊥
     beyond n h = omega arith
 
+pub below4² : (Q : ℕ → ℕ → Type 0)
+    → Q 0 0 → Q 0 1 → Q 0 2 → Q 0 3 → Q 1 0 → Q 1 1 → Q 1 2 → Q 1 3 → Q 2 0 → Q 2 1 → Q 2 2 → Q 2 3 → Q 3 0 → Q 3 1 → Q 3 2 → Q 3 3
+    → (i j : ℕ) → i < 4 → j < 4 → Q i j
+below4² Q a b c d e f g h k l m n o p q r i j s =
+    below4 (λ i. (j : ℕ) → j < 4 → Q i j) (below4 (Q 0) a b c d) (below4 (Q 1) e f g h) (below4 (Q 2) k l m n) (below4 (Q 3) o p q r) i s j
+
 pub both-l : (a b : Bool) → T (both a b) → T a
 both-l true b t = tt
 both-l false b t = t
