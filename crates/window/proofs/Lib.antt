@@ -1,0 +1,11 @@
+pub mod Places
+pub mod Expressions
+pub mod Bounds
+pub mod Passes
+pub mod Weighted
+pub mod Squares
+pub mod Linear
+pub mod Mirrors
+pub mod Least
+pub mod Zero
+pub mod Most

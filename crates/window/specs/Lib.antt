@@ -1,0 +1,5 @@
+pub mod Window
+pub mod Passes
+pub mod Surface
+pub mod Mirrors
+pub mod Squares
