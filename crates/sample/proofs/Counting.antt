@@ -9,11 +9,12 @@ use lib.Dec.{eqb, leb}
 use mir.Val.{boolByte}
 use lib.ListN.{length, getD, length-append}
 use lib.IntN.{ℤ, pos, negsuc}
-use Rattle.laws.specs.Lists.{from}
+use Rattle.laws.specs.Lists.{from, joined}
 use Rattle.laws.proofs.Fill.{from-more, from-none, length-from}
 use Rattle.window.specs.declared.WindowStats.{WindowStats}
 use Rattle.sample.specs.Columns.{figureIn, figuresIn}
-use Rattle.sample.specs.Bands.{rail, bandOf, ofBand, countOf, keptOf}
+use Rattle.sample.specs.Bands.{rail, bandOf, ofBand, countOf, keptOf, sampleOf}
+use Rattle.sample.specs.declared.Sample.{Sample}
 
 pub count-cons : (b : ℕ) (f : WindowStats) (fs : List WindowStats) → countOf b (f ∷ fs) ≡ boolByte (eqb (bandOf (f .sum)) b) + countOf b fs
 count-cons b f fs = go (eqb (bandOf (f .sum)) b)
@@ -56,17 +57,44 @@ once (suc (suc (suc (suc (suc n))))) h = absurd (none n h)
 pub all-counted : (fs : List WindowStats) → countOf 0 fs + countOf 1 fs + countOf 2 fs + countOf 3 fs + countOf rail fs ≡ length fs
 all-counted [] = refl
 all-counted (f ∷ fs) =
-    omega (arith, all-counted fs, once (bandOf (f .sum)) (band-most (f .sum)),
-      count-cons 0 f fs, count-cons 1 f fs, count-cons 2 f fs, count-cons 3 f fs, count-cons rail f fs)
+    omega (
+      arith,
+      all-counted fs,
+      once (bandOf (f .sum)) (band-most (f .sum)),
+      count-cons 0 f fs,
+      count-cons 1 f fs,
+      count-cons 2 f fs,
+      count-cons 3 f fs,
+      count-cons rail f fs,
+    )
 
 pub kept-sum : (fs : List WindowStats) → keptOf fs ≡ countOf 0 fs + countOf 1 fs + countOf 2 fs + countOf 3 fs
 kept-sum fs =
-    omega (arith, length-append (ofBand 0 fs) (ofBand 1 fs ++ (ofBand 2 fs ++ ofBand 3 fs)),
-      length-append (ofBand 1 fs) (ofBand 2 fs ++ ofBand 3 fs), length-append (ofBand 2 fs) (ofBand 3 fs))
+    let band : ℕ → List WindowStats = λ b. ofBand b fs in
+    omega (arith, length-append (band 0) (joined band 1 3), length-append (band 1) (joined band 2 2), length-append (band 2) (joined band 3 1), length-append (band 3) [])
 
 -- so no more are kept than there are
 pub kept-most : (fs : List WindowStats) → keptOf fs ≤ length fs
 kept-most fs = omega (arith, kept-sum fs, all-counted fs)
+
+-- the fields of a sample that is counted
+pub record Counts (s : Sample) (fs : List WindowStats) : Type 0 where
+  pub c0 : s .b0 ≡ countOf 0 fs
+  pub c1 : s .b1 ≡ countOf 1 fs
+  pub c2 : s .b2 ≡ countOf 2 fs
+  pub c3 : s .b3 ≡ countOf 3 fs
+  pub c4 : s .rail ≡ countOf rail fs
+
+pub counts : (s : Sample) (fs : List WindowStats) → s ≡ sampleOf fs → Counts s fs
+unfolding sampleOf
+counts s fs e =
+    record {
+      c0 = ap (λ (r : Sample). r .b0) e;
+      c1 = ap (λ (r : Sample). r .b1) e;
+      c2 = ap (λ (r : Sample). r .b2) e;
+      c3 = ap (λ (r : Sample). r .b3) e;
+      c4 = ap (λ (r : Sample). r .rail) e;
+    }
 
 -- ---- the loop that counts: n of band b are found in the first k of t windows
 

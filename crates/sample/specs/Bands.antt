@@ -1,10 +1,11 @@
 -- Bands: document 01, "Bands".
 use mathlib.Core.Bool.{Bool, cond, _&&_}
-use mathlib.Core.List.{List, [], _∷_, _++_}
+use mathlib.Core.List.{List, [], _∷_}
 use Prim.Native.Nat.{ℕ, _+_, _/_}
 use lib.Dec.{leb, eqb}
 use lib.ListN.{length}
 use lib.IntN.{ℤ, pos, negsuc}
+use Rattle.laws.specs.Lists.{joined}
 use Rattle.window.specs.declared.WindowStats.{WindowStats}
 use Rattle.sample.specs.declared.Sample.{Sample}
 
@@ -26,7 +27,7 @@ countOf b fs = length (ofBand b fs)
 
 -- the bands one after the other; what is rail is dropped
 abbrev pub banded : List WindowStats → List WindowStats
-banded fs = ofBand 0 fs ++ (ofBand 1 fs ++ (ofBand 2 fs ++ ofBand 3 fs))
+banded fs = joined (λ b. ofBand b fs) 0 rail
 
 abbrev pub keptOf : List WindowStats → ℕ
 keptOf fs = length (banded fs)

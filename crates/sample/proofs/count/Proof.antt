@@ -15,9 +15,6 @@ use Rattle.sample.specs.Bands.{rail, bandOf, countOf, sampleOf}
 use Rattle.sample.proofs.Counting.{Counted, count-start, count-turn, count-end, count-low}
 use Rattle.sample.proofs.count.Statement.{statement}
 use Rattle.sample.proofs.count.Tie as tie
-use Rattle.sample.proofs.count.Reads as reads
-use Rattle.sample.proofs.count.Lts as lts
-use Rattle.sample.proofs.band.Reads as band-reads
 
 record Inv (t : ℕ) (l : List ℤ) (b0 b1 b2 b3 r k : ℕ) : Type 0 where
   low : k ≤ t
