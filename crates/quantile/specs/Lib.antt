@@ -1,0 +1,4 @@
+-- Rising order, and the quiet level.
+pub mod Tally
+pub mod Rising
+pub mod Quantile
