@@ -7,9 +7,9 @@ use Prim.Native.Nat.{ℕ, zero, suc, _+_, _-_, _*_, _/_, _≤_, _<_, min}
 use native.Mathlib.Omega.{arith}
 use native.Mathlib.Numerals.{add-one}
 use native.Mathlib.Nat.{le-antisymm, eq-or-lt-of-le, lt-of-mul-lt-mul-right, le-div-iff-mul-le, div-lt-iff-lt-mul}
-use lib.ListN.{length, getD, set, take, length-set, length-take, replicate, length-replicate, getD-replicate}
+use lib.ListN.{length, getD, set, take, length-set, length-take, replicate, length-replicate, getD-replicate, List·getD-eq-default}
 use lib.Seq.{getD-set-same, getD-set-other, getD-take, ext-getD}
-use lib.Ieee.{Float, nan}
+use lib.Ieee.{Float, nan, Format, binary32, binary64, ofBits, div, isNan}
 use Rattle.ieee.specs.Order.{totalLess}
 use Rattle.laws.proofs.Choice.{chosen, passed}
 use Rattle.quantile.specs.Rising.{at, inserted, rising, Rises}
@@ -123,3 +123,121 @@ module _ (N : ℕ) (old : List Float) (v : Float) (R : Rises old) (g : length ol
         zero-is = omega arith
         none : (i : ℕ) → i < j → ⊥
         none i k = omega arith
+
+-- ---- equal numbers have equal order
+
+pub rising-same : (f g : ℕ → Float) (n : ℕ) → ((i : ℕ) → i < n → f i ≡ g i) → rising f n ≡ rising g n
+rising-same f g zero h = refl
+rising-same f g (suc n) h =
+    ap (λ (x : Float). inserted x (rising f n)) (h n (omega arith)) ∙ ap (inserted (g n)) (rising-same f g n (λ i l. h i (omega arith)))
+
+-- ---- place: the N least of the first k, and no number past them
+
+pub record Held (N : ℕ) (f : ℕ → Float) (n k : ℕ) (least : List Float) : Type 0 where
+  pub low : k ≤ n
+  pub long : length least ≡ N
+  pub same : (i : ℕ) → i < N → at least i ≡ at (rising f k) i
+
+-- 0 / 0
+pub no-number : (f : Format) → div f (ofBits f 0) (ofBits f 0) ≡ nan
+unfolding ofBits div
+no-number binary32 = refl
+no-number binary64 = refl
+
+nothing-below : (x y : Float) → x ≡ nan → totalLess x y ≡ false
+unfolding totalLess isNan
+nothing-below x y e = ap (λ (z : Float). totalLess z y) e
+
+pub held-start : (N : ℕ) (f : ℕ → Float) (n : ℕ) (x : Float) → x ≡ nan → Held N f n 0 (replicate N x)
+held-start N f n x e = record { low = omega arith; long = length-replicate N x; same = λ i h. getD-replicate N i x nan h ∙ e }
+
+module _ {N : ℕ} {f : ℕ → Float} {n k : ℕ} {least : List Float} (h : Held N f n k least) where
+  pub held-rises : Rises least
+  held-rises i = elim (trichotomy (suc i) N) [
+    | inl l ↦ rw (h .same (suc i) l, h .same i (omega arith)) (rising-rises f k i)
+    | inr (inl e) ↦ past (omega arith)
+    | inr (inr l) ↦ past (omega arith)
+    ]
+    where
+      past : N ≤ suc i → totalLess (at least (suc i)) (at least i) ≡ false
+      past g = nothing-below (at least (suc i)) (at least i) (List·getD-eq-default least nan (omega (arith, h .long)))
+
+  slot-same : (v : Float) (i : ℕ) → i < N → slot v least i ≡ slot v (rising f k) i
+  slot-same v zero l = ap (first v) (h .same 0 l)
+  slot-same v (suc i) l = rw (h .same i (omega arith), h .same (suc i) l)
+
+  pub held-more : k < n → {v : Float} {least′ : List Float} → v ≡ f k → least′ ≡ take N (inserted v least) → Held N f n (k + 1) least′
+  held-more l {v} {least′} e q =
+      record {
+      low = omega arith;
+      long = ap length q ∙ length-take N (inserted v least) ∙ full (length (inserted v least)) (length-inserted v least ∙ ap suc (h .long));
+      same = λ i g. ap (λ (z : List Float). at z i) q ∙ getD-take N (inserted v least) i nan g ∙ slot-is v least held-rises i ∙ slot-same v i g
+        ∙ sym (slot-is v (rising f k) (rising-rises f k) i) ∙ ap (λ (z : Float). at (inserted z (rising f k)) i) e ∙ sym (ap (λ (z : ℕ). at (rising f z) i) (add-one k)) }
+    where
+      full : (a : ℕ) → a ≡ suc N → min N a ≡ N
+      full a q = omega arith
+
+  pub held-end : n ≤ k → (p : ℕ) → p < N → at least p ≡ at (rising f n) p
+  held-end g p l = h .same p l ∙ ap (λ (z : ℕ). at (rising f z) p) (le-antisymm (h .low) g)
+
+-- ---- quantile: n values taken, the next one at k
+
+pub record Taken (g : List Float) (s : ℕ) (buf : List Float) (n k : ℕ) : Type 0 where
+  pub long : length buf ≡ 255
+  pub step : k ≡ n * s
+  pub last : k < length g + s
+  pub same : (i : ℕ) → i < n → at buf i ≡ at g (i * s)
+
+pub taken-start : (g : List Float) (s : ℕ) (buf : List Float) → length buf ≡ 255 → s ≡ stride (length g) → Taken g s buf 0 0
+taken-start g s buf e h = record { long = e; step = omega arith; last = omega arith; same = λ i l. absurd (none i l) }
+  where
+    none : (i : ℕ) → i < 0 → ⊥
+    none i l = omega arith
+
+module _ {g : List Float} {s : ℕ} {buf : List Float} {n k : ℕ} (t : Taken g s buf n k) (e : s ≡ stride (length g)) where
+  wide : length g ≤ 255 * s
+  wide = omega arith
+
+  pub taken-room : k < length g → n < 255
+  taken-room h = lt-of-mul-lt-mul-right s (go (n * s) (t .step))
+    where
+      go : (x : ℕ) → k ≡ x → x < 255 * s
+      go x p = omega (arith, wide)
+
+  pub taken-few : n < 256
+  taken-few = lt-of-mul-lt-mul-right s (go (n * s) (t .step))
+    where
+      go : (x : ℕ) → k ≡ x → x < 256 * s
+      go x p = omega (arith, wide, t .last)
+
+  pub taken-more : k < length g → {v : Float} → v ≡ at g k → Taken g s (set buf n v) (n + 1) (k + s)
+  taken-more h {v} q =
+      record {
+      long = length-set buf n v ∙ t .long;
+      step = omega (arith, t .step);
+      last = omega arith;
+      same = λ j m. ⊎-elim (λ (i : j ≡ n). ap (at (set buf n v)) i ∙ getD-set-same buf n v nan (omega (arith, t .long, taken-room h)) ∙ q ∙ ap (at g) (t .step ∙ ap (λ (x : ℕ). x * s) (sym i)))
+        (λ (i : j < n). getD-set-other buf n j v nan (omega arith) ∙ t .same j i) (eq-or-lt-of-le (upto-n j m)) }
+    where
+      upto-n : (j : ℕ) → j < n + 1 → j ≤ n
+      upto-n j m = omega arith
+
+  -- the count is the rule's
+  count-is : length g ≤ k → n ≡ (length g + (s - 1)) / s
+  count-is h =
+      le-antisymm (le-div-iff-mul-le {k = s} {x = n} {y = length g + (s - 1)} (omega arith) .1 (go (n * s) (t .step)))
+      (one-less ((length g + (s - 1)) / s) (div-lt-iff-lt-mul {k = s} {x = length g + (s - 1)} {y = n + 1} (omega arith) .1 over))
+    where
+      go : (x : ℕ) → k ≡ x → x ≤ length g + (s - 1)
+      go x p = omega (arith, t .last)
+      over : length g + (s - 1) < (n + 1) * s
+      over = omega (arith, h, t .step)
+      one-less : (x : ℕ) → x < n + 1 → x ≤ n
+      one-less x h = omega arith
+
+  pub taken-end : length g ≤ k → {r : Float} → r ≡ at (rising (at buf) n) (n / 16) → r ≡ quiet g
+  unfolding quiet
+  taken-end h {r} q =
+      q ∙ ap (λ (l : List Float). at l (n / 16)) (rising-same (at buf) (λ (j : ℕ). at g (j * s)) n (t .same))
+      ∙ ap (λ (x : ℕ). at (rising (λ (j : ℕ). at g (j * s)) x) (x / 16)) (count-is h)
+      ∙ ap (λ (x : ℕ). at (rising (λ (j : ℕ). at g (j * x)) ((length g + (x - 1)) / x)) ((length g + (x - 1)) / x / 16)) e

@@ -2,3 +2,4 @@
 pub mod Tally
 pub mod Rising
 pub mod Quantile
+pub mod Examples

@@ -51,7 +51,7 @@ fn place(buf: &[f32; 255], n: usize, p: usize) -> f32
 
 // v among the sixteen least, which stand in rising order; the last one falls out.
 fn insert(least: &mut [f32; 16], v: f32)
-    requires { ⌜ Rises (now least) ⌝ }
+    requires { ⌜ Rises (now least) × (length (now least) ≡ 16) ⌝ }
     ensures { λ r. ⌜ now (least .exit) ≡ take 16 (inserted v (now (least .entry))) ⌝ }
 {
     let last = least[15];
