@@ -1,0 +1,6 @@
+-- What the loops keep, and what follows from the definitions.
+pub mod Counts
+pub mod Sums
+pub mod Starts
+pub mod Turns
+pub mod Bands
