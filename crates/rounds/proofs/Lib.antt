@@ -4,3 +4,4 @@ pub mod Sums
 pub mod Starts
 pub mod Turns
 pub mod Bands
+pub mod Bounds

@@ -1,0 +1,2 @@
+-- What the loops keep, and what follows from the definitions.
+pub mod Joins
