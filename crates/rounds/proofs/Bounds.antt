@@ -2,8 +2,10 @@
 use mathlib.Core.Path.{_≡_, refl, sym, ap, subst}
 use mathlib.Core.Bool.{Bool, cond, not, _&&_}
 use mathlib.Core.List.{List}
+use mathlib.Core.Logic.{_⊎_, inl, inr}
 use Prim.Native.Nat.{ℕ, zero, suc, _+_, _≤_, _<_}
 use native.Mathlib.Omega.{arith}
+use native.Mathlib.Nat.{lt-irrefl}
 use lib.Dec.{eqb, ltb, leb}
 use lib.ListN.{length}
 use lib.Ieee.{Float, binary64, mul, lt}
@@ -40,26 +42,28 @@ module _ (f : Float → Total) where
       round-both (λ (s : Settled). r ≤ s .rounds) (f var) var prev r (rounds f left (next (f var)) (f var .n) (r + 1)) (omega arith) (omega arith)
       (omega (arith, rounds-least left (next (f var)) (f var .n) (r + 1)))
 
+  one-least : (left : ℕ) (var : Float) (prev r : ℕ) → 0 < left → r + 1 ≤ rounds f left var prev r .rounds
+  one-least zero var prev r h = omega arith
+  one-least (suc left) var prev r h =
+      round-both (λ (s : Settled). r + 1 ≤ s .rounds) (f var) var prev r (rounds f left (next (f var)) (f var .n) (r + 1)) (omega arith) (omega arith)
+      (rounds-least left (next (f var)) (f var .n) (r + 1))
+
   -- at most 12, and at least 1: also where the first admits none
   pub settle-rounds : (var : Float) → (1 ≤ settle f var .rounds) × (settle f var .rounds ≤ 12)
-  unfolding settle most
-  settle-rounds var =
-      (round-both (λ (s : Settled). 1 ≤ s .rounds) (f var) var noCount 0 (rounds f 11 (next (f var)) (f var .n) (0 + 1)) (omega arith) (omega arith)
-        (omega (arith, rounds-least 11 (next (f var)) (f var .n) (0 + 1))),
-       omega (arith, rounds-most 12 var noCount 0))
+  unfolding settle
+  settle-rounds var = (omega (arith, one-least most var noCount 0 (omega (arith, most-is))), omega (arith, rounds-most most var noCount 0, most-is))
 
   module _ (B : ℕ) (few : (v : Float) → f v .n ≤ B) where
-    rounds-count : (left : ℕ) (var : Float) (prev r : ℕ) → prev ≤ B → rounds f left var prev r .n ≤ B
-    rounds-count zero var prev r h = h
+    rounds-count : (left : ℕ) (var : Float) (prev r : ℕ) → (prev ≤ B) ⊎ (0 < left) → rounds f left var prev r .n ≤ B
+    rounds-count zero var prev r (inl h) = h
+    rounds-count zero var prev r (inr h) = absurd (lt-irrefl 0 h)
     rounds-count (suc left) var prev r h =
         round-both (λ (s : Settled). s .n ≤ B) (f var) var prev r (rounds f left (next (f var)) (f var .n) (r + 1)) (omega arith) (few var)
-        (rounds-count left (next (f var)) (f var .n) (r + 1) (few var))
+        (rounds-count left (next (f var)) (f var .n) (r + 1) (inl (few var)))
 
     pub settle-count : (var : Float) → settle f var .n ≤ B
-    unfolding settle most
-    settle-count var =
-        round-both (λ (s : Settled). s .n ≤ B) (f var) var noCount 0 (rounds f 11 (next (f var)) (f var .n) (0 + 1)) (omega arith) (few var)
-        (rounds-count 11 (next (f var)) (f var .n) (0 + 1) (few var))
+    unfolding settle
+    settle-count var = rounds-count most var noCount 0 (inr (omega (arith, most-is)))
 
 pub image-rounds : (g o : List Float) (starts : List ℕ) → imageVariance g o starts .rounds ≤ 12
 unfolding imageVariance

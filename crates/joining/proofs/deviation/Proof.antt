@@ -1,3 +1,9 @@
+use mathlib.Core.Path.{_∙_, ap}
+use lib.Ieee.{Float, binary32, binary64, div}
+use Rattle.ieee.specs.Convert.{convert}
+use Rattle.ieee.specs.Sqrt.{sqrt}
+use Rattle.joining.specs.Numbers.{gain}
+use Rattle.joining.specs.Joining.{deviation}
 use borrow.Author.Needs.{needs}
 use Rattle.joining.proofs.deviation.Statement.{statement}
 use Rattle.joining.proofs.deviation.Tie as tie
@@ -21,7 +27,11 @@ to-f32-requires c κs = search needs
 
 -- src/lib.rt:201:1
 returns : tie.Need-returns
-returns c = ?
+unfolding deviation
+returns c =
+    c .to-f32 .ensures
+    ∙ ap (λ (x : Float). convert binary32 (div binary64 x gain)) (c .before .sqrt64 .ensures
+    ∙ ap (λ (x : Float). sqrt binary64 (div binary64 (c .before .before .before .before .args .k .sum) x)) (c .before .before .before .whole .ensures))
 
 pub deviation-spec : {M : Type 1} → statement M
 deviation-spec = tie.close (tie.spec whole-requires sqrt64-requires to-f32-requires returns)

@@ -1,3 +1,5 @@
+use denote.Ref.{now}
+use Rattle.joining.proofs.Joins.{sigma-none, sigma-is}
 use borrow.Author.Needs.{needs}
 use Rattle.joining.proofs.join.Statement.{statement}
 use Rattle.joining.proofs.join.Tie as tie
@@ -15,7 +17,10 @@ collect-requires c κs = search needs
 
 -- src/lib.rt:67:9
 returns : tie.Need-returns
-returns c = ?
+returns c =
+    let s = c .before .before .before in
+    let e = c .before .collect .ensures in
+    sigma-none (s .args .bands) (c .before .collect .last .1 .0) (c .before .collect .result) (e .0) (e .1) (e .2) (c .if1 .taken)
 
 -- src/lib.rt:69:20
 median-requires : tie.Need-median-requires
@@ -35,7 +40,11 @@ decide-requires c κs = search needs
 
 -- src/lib.rt:60:1
 returns-2 : tie.Need-returns-2
-returns-2 c = ?
+returns-2 c =
+    let n = c .before .before .before .before .before in
+    let e = n .before .collect .ensures in
+    sigma-is (n .before .before .before .args .bands) (n .before .collect .last .1 .0) (n .before .collect .result) (e .0) (e .1) (e .2) (n .if1 .left)
+    (c .before .before .before .median .ensures) (c .before .before .lid .ensures) (c .before .joined .ensures) (c .decide .ensures)
 
 pub join-spec : {M : Type 1} → statement M
 join-spec =

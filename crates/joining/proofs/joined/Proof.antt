@@ -1,3 +1,5 @@
+use lib.Ieee.{nan}
+use Rattle.rounds.specs.declared.Found.the-variants.{Variance}
 use Prim.Native.Nat.{_-_}
 use Rattle.joining.proofs.Joins.{Joining, joining-start, joining-room, joining-more, joining-end}
 use native.Mathlib.Omega.{arith}
@@ -27,7 +29,9 @@ array-copy-out-f c = omega arith
 
 -- src/lib.rt:168:9
 add-band-requires : tie.Need-add-band-requires Inv-loop μ-loop
-add-band-requires c κs = tt
+add-band-requires c κs =
+    let n = c .before in
+    omega (arith, n .before .before .pre .1, joining-room (n .before .loop .inv) (n .before .before .pre .0) (n .loop-test .taken) (Variance 0 nan))
 
 -- src/lib.rt:169:9
 add-b : tie.Need-add-b Inv-loop μ-loop
@@ -39,11 +43,13 @@ loop-less c = omega arith
 
 -- src/lib.rt:166:5
 loop-again : tie.Need-loop-again Inv-loop μ-loop
-loop-again c = ?
+loop-again c =
+    let n = c .before .before in
+    joining-more (n .before .loop .inv) (n .before .before .pre .0) (n .loop-test .taken) _ (c .add-band .ensures)
 
 -- src/lib.rt:160:1
 returns : tie.Need-returns Inv-loop μ-loop
-returns c = ?
+returns c = joining-end (c .before .loop .inv) (c .before .before .pre .0) (c .loop-test .left)
 
 pub joined-spec : {M : Type 1} → statement M
 joined-spec =

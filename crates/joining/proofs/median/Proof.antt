@@ -1,3 +1,5 @@
+use denote.Ref.{now}
+use Rattle.joining.proofs.Joins.{median-odd, median-even}
 use borrow.Author.Needs.{needs}
 use Rattle.joining.proofs.median.Statement.{statement}
 use Rattle.joining.proofs.median.Tie as tie
@@ -19,7 +21,9 @@ array-read-result c = search needs
 
 -- src/lib.rt:109:9
 returns : tie.Need-returns
-returns c = ?
+returns c =
+    let s = c .before .before in
+    median-odd (now (s .args .vars)) (s .args .n) (s .pre .2) (s .pre .1) (c .before .sort .result) (c .before .sort .ensures) (c .if1 .taken)
 
 -- src/lib.rt:111:14
 sub-result : tie.Need-sub-result
@@ -43,7 +47,9 @@ array-read-result-3 c = search needs
 
 -- src/lib.rt:103:1
 returns-2 : tie.Need-returns-2
-returns-2 c = ?
+returns-2 c =
+    let s = c .before .before in
+    median-even (now (s .args .vars)) (s .args .n) (s .pre .2) (s .pre .1) (c .before .sort .result) (c .before .sort .ensures) (c .if1 .left)
 
 pub median-spec : {M : Type 1} → statement M
 median-spec =
