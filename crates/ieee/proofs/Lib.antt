@@ -1,5 +1,16 @@
 -- Laws of the formats and of those definitions.
 pub mod Laws
+pub mod Numbers
+pub mod Grid
+pub mod Distance
+pub mod RoundsToEven
+pub mod ConvertFormat
+pub mod SquareRoot
+pub mod Comparing
+pub mod TotalOrder
+pub mod MaxMin
+pub mod Classes
+pub mod TowardNegative
 pub mod Wraps
 pub mod Reading
 pub mod Narrowing

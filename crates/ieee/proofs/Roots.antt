@@ -28,6 +28,13 @@ four m i = rw (add-one i, pow-suc 4 i) (omega arith)
 two : (i : ℕ) → 2 ^ (i + 1) ≡ 2 * 2 ^ i
 two i = rw (add-one i, pow-suc 2 i) (omega arith)
 
+pub le-or-lt : (a b : ℕ) → (a ≤ b) ⊎ (b < a)
+le-or-lt a b = go (leb a b) (leb→le a b) (nleb→lt a b)
+  where
+    go : (t : Bool) → (T t → a ≤ b) → (T (not t) → b < a) → (a ≤ b) ⊎ (b < a)
+    go true h k = inl (h tt)
+    go false h k = inr (k tt)
+
 -- ---- `root`
 digit : (d n : ℕ) → n < 4 ^ suc d → n / 4 < 4 ^ d
 digit d n h = omega (arith, pow-suc 4 d)
@@ -107,3 +114,15 @@ finish {m} {n} {rest} {q} {over} {i} D l e =
     let is : m * 4 ^ n / 2 ^ 54 ≡ q * q + over = last m n rest q over (subst (λ (j : ℕ). Digits m n rest q over j) at D) e in
     let r = rounded q over (D .slack) in
     (λ g. add-one q ∙ sym (ap nearestRoot is ∙ r .0 g), λ g. sym (ap nearestRoot is ∙ r .1 g))
+
+-- q is the whole number nearest to n's root where (q - 1 / 2)² < n < (q + 1 / 2)²: in whole numbers, where q² - q < n ≤ q² + q
+pub tested : (q n : ℕ) → 0 < q → q * q - q < n → n ≤ q * q + q → nearestRoot n ≡ q
+tested zero n Q lo hi = absurd (lt-irrefl 0 Q)
+tested (suc p) n Q lo hi = elim (le-or-lt (suc p * suc p) n) [
+  | inl g ↦
+      let is : n ≡ suc p * suc p + (n - suc p * suc p) = omega arith in
+      ap nearestRoot is ∙ rounded (suc p) (n - suc p * suc p) (omega arith) .1 (omega arith)
+  | inr l ↦
+      let is : n ≡ p * p + (n - p * p) = omega arith in
+      ap nearestRoot is ∙ rounded p (n - p * p) (omega arith) .0 (omega arith)
+]

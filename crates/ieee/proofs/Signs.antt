@@ -2,9 +2,10 @@
 use mathlib.Core.Path.{_≡_, refl, sym, ap, _∙_, subst}
 use mathlib.Core.Bool.{Bool, true, false, not, cond, true≢false}
 use Prim.Native.Nat.{ℕ, zero, suc, _+_, _-_, _*_, _/_, _%_, _^_, _≤_, _<_}
-use native.Mathlib.Nat.{mod-eq-of-lt, lt-irrefl, add-sub-of-le, add-mod-left, mul-add-mod-self-left, not-le-of-lt, le-add-right}
+use native.Mathlib.Nat.{mod-eq-of-lt, lt-irrefl, add-sub-of-le, le-trans, mod-le, add-mod-left, mul-add-mod-self-left, not-le-of-lt, le-add-right}
 use native.Mathlib.Omega.{arith}
 use lib.Dec.{T, leb, ltb, eqb, le→leb, nltb→le, not-T, lit<, lit≤}
+use lib.Arith.{le→nltb}
 use lib.IntN.{ℤ}
 use lib.Ieee.{Float, nan, inf, fin, Format, binary32, binary64, prec, emax, low, hid, ones, top, odd, ofFields, ofBits, nanBits, toBits, fits, neg, round, units, isNan, up, down}
 use lib.Ieee.Fits.{round-fits, round-is, neg-fits, nan-fits, inf-fits}
@@ -23,6 +24,10 @@ pub pattern : (f : Format) (v : Float) (r : ℕ) → T (fits f v) → T (not (is
 pattern f v r F N e =
     let b : ofBits f r ≡ v = ap (ofBits f) e ∙ ofBits-toBits f v F in
     record { wide = rw e (toBits-lt f v F); plain = rw (nanBits-is f r, b) N; back = b }
+
+-- a pattern up to the infinity's is no NaN's
+pub plain-pattern : (f : Format) (b : ℕ) → b ≤ ones f * hid f → T (not (nanBits f b))
+plain-pattern f b h = subst (λ (t : Bool). T (not t)) (sym (nanBits-above f b)) (le→nltb (ones f * hid f) (b % top f) (le-trans (mod-le b (top f)) h))
 
 -- ---- without its sign, the pattern of an x that is no NaN is at most the infinity's
 pub in-size : (f : Format) (x : Float) → T (fits f x) → T (not (isNan x)) → toBits f x % top f ≤ ones f * hid f

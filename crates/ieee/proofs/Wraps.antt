@@ -19,13 +19,13 @@ is-plain (inf s) h = refl
 is-plain (fin s m e) h = refl
 
 -- a number above another is no NaN
-above-plain : (a b : Float) → lt a b ≡ true → isNan a ≡ false
+pub above-plain : (a b : Float) → lt a b ≡ true → isNan a ≡ false
 unfolding lt isNan
 above-plain nan b h = absurd (false≢true h)
 above-plain (inf s) b h = refl
 above-plain (fin s m e) b h = refl
 
-below-plain : (a b : Float) → lt b a ≡ true → isNan a ≡ false
+pub below-plain : (a b : Float) → lt b a ≡ true → isNan a ≡ false
 unfolding lt isNan
 below-plain nan nan h = absurd (false≢true h)
 below-plain nan (inf s) h = absurd (false≢true h)

@@ -84,20 +84,24 @@ sub-result c = omega (arith, brief c .above)
 mul-result : tie.Need-mul-result
 mul-result c = omega (arith, brief c .below)
 
-root-requires : tie.Need-root-requires
-root-requires c κs =
-    let s = scaled c in
-    let b = brief c in
-    subst (λ (m : ℕ). (m < 2 ^ 54) × (24 ≤ 53) × (m * 4 ^ 24 % 2 ^ 54 ≡ 0)) (sym (m-is c))
-    (m-hi (digits c) (e c) (s .lo) (s .hi), lit≤ tt, exact32 (digits c) (e c) (s .lo) (s .hi) (b .w) (b .even) (b .above) (b .below))
+guess-requires : tie.Need-guess-requires
+guess-requires c κs = search needs
 
-result : (c : tie.After-root) → Pattern binary32 (sqrt binary32 (x (start (c .before)))) ((e (c .before) / 2 - 411) * 2 ^ 23 + c .root .result)
-result c =
+root24-requires : tie.Need-root24-requires
+root24-requires c κs =
     let j = c .before in
     let s = scaled j in
     let b = brief j in
+    subst (λ (m : ℕ). (m < 2 ^ 54) × (m * 4 ^ 24 % 2 ^ 54 ≡ 0) × (2 ^ 23 ≤ c .guess .result) × (c .guess .result ≤ 2 ^ 24)) (sym (m-is j))
+    (m-hi (digits j) (e j) (s .lo) (s .hi), exact32 (digits j) (e j) (s .lo) (s .hi) (b .w) (b .even) (b .above) (b .below), c .guess .ensures .0, c .guess .ensures .1)
+
+result : (c : tie.After-root24) → Pattern binary32 (sqrt binary32 (x (start (c .before .before)))) ((e (c .before .before) / 2 - 411) * 2 ^ 23 + c .root24 .result)
+result c =
+    let j = c .before .before in
+    let s = scaled j in
+    let b = brief j in
     sqrt32-pattern (digits j) (e j) (s .lo) (s .hi) (b .w) (b .even) (b .above) (b .below) (x (start j)) (value j)
-    (c .root .result) (c .root .ensures ∙ ap (λ (m : ℕ). nearestRoot (m * 4 ^ 24 / 2 ^ 54)) (m-is j))
+    (c .root24 .result) (c .root24 .ensures ∙ ap (λ (m : ℕ). nearestRoot (m * 4 ^ 24 / 2 ^ 54)) (m-is j))
 
 add-result : tie.Need-add-result
 add-result c = omega (arith, result c .wide)
@@ -125,7 +129,8 @@ sqrt32-spec =
     mul-m
     sub-result
     mul-result
-    root-requires
+    guess-requires
+    root24-requires
     add-result
     cast-result
     float-from-bits-result
