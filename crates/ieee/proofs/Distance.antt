@@ -12,7 +12,8 @@ use lib.Ieee.{Float, nan, inf, fin, up, down}
 use lib.Ieee.Fits.{down-pos}
 use lib.Ieee.Exact.{HasValue}
 use Rattle.ieee.specs.Rounding.{Exact, fraction, rootOf, AtLeast, AtMost, Within, Near, AsNear}
-use Rattle.ieee.proofs.Numbers.{Proper, trichotomy, sub-mul, least-down, most-up, meet, least?, most?, not-least, not-most, least-scale, most-scale, least-unscale, most-unscale, part}
+use Rattle.ieee.proofs.Naturals.{trichotomy, sub-mul}
+use Rattle.ieee.proofs.ExactSizes.{Proper, least-down, most-up, meet, least?, most?, not-least, not-most, least-scale, most-scale, least-unscale, most-unscale, part}
 
 abbrev pub Middle : Exact → ℕ → ℕ → ℕ → Type 0
 Middle X d R Y = (R < Y → AtMost X (R + Y) (d * 2)) × (Y < R → AtLeast X (R + Y) (d * 2))

@@ -11,8 +11,7 @@ use lib.Ieee.{Float, nan, inf, fin, up, down, below, level, lt, eq, isNan}
 use lib.Ieee.Fits.{and-l, and-r}
 use borrow.Author.Tests.{le-ltb}
 use Rattle.ieee.specs.Order.{larger, smaller, totalLess}
-use Rattle.ieee.proofs.Laws.{yes}
-use Rattle.ieee.proofs.Wraps.{above-plain, below-plain}
+use Rattle.ieee.proofs.Tests.{yes}
 use Rattle.ieee.proofs.TotalOrder.{transitive, irreflexive, as-less}
 
 -- ---- `<` is a strict order, and nothing is below a float that it equals
@@ -114,7 +113,7 @@ by-less = record { same = lt-irreflexive; turned = lt-asymmetric; no-nan = lt-na
 by-more : Strict (λ x y. lt y x)
 by-more = record { same = lt-irreflexive; turned = λ x y h. lt-asymmetric y x h; no-nan = nan-lt; equal = λ x y h. eq-not-lt x y h .1 }
 
--- ---- the larger
+-- ---- the larger, and the smaller
 module _ (a b : Float) where
   pub larger-picks : Picked lt a b (larger a b)
   unfolding larger
