@@ -13,10 +13,9 @@ use lib.Ieee.Compare.{differs-from-itself}
 use lib.Ieee.Exact.{HasValue}
 use lib.Ieee.Fits.{down-pos}
 use lib.Ieee.Nearest.{div-same}
-use Rattle.ieee.proofs.Laws.{yes}
-use Rattle.ieee.proofs.Reading.{read-low, read-high}
-use Rattle.ieee.proofs.Signs.{fin-low, inf-low, in-size}
-use Rattle.ieee.proofs.Floors.{rescale}
+use Rattle.ieee.proofs.Tests.{yes}
+use Rattle.ieee.proofs.Reading.{read-low, read-high, fin-low, inf-low, in-size}
+use Rattle.ieee.proofs.Values.{rescale}
 use Rattle.milli.specs.Thousandths.{thousandths, milliOf}
 
 -- ---- a fraction's thousandths

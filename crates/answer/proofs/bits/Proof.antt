@@ -4,7 +4,7 @@ use mathlib.Core.Bool.{true}
 use Prim.Native.Nat.{ℕ}
 use lib.Ieee.{Float, binary32, toBits, ne}
 use lib.Ieee.Compare.{differs-from-itself}
-use Rattle.ieee.proofs.Laws.{yes, no-nan}
+use Rattle.ieee.proofs.Tests.{yes, no-nan}
 use borrow.Author.Needs.{needs}
 use Rattle.answer.proofs.bits.Statement.{statement}
 use Rattle.answer.proofs.bits.Tie as tie

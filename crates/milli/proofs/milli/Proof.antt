@@ -7,7 +7,7 @@ use Prim.Native.Nat.{ℕ, _+_, _-_, _*_, _/_, _%_, _^_, _≤_, _<_}
 use native.Mathlib.Omega.{arith}
 use lib.Dec.{T}
 use lib.Ieee.{Float, binary32, fits, isNan, toBits}
-use Rattle.ieee.proofs.Laws.{no-nan}
+use Rattle.ieee.proofs.Tests.{no-nan}
 use Rattle.milli.proofs.Cutting.{milli-nan, milli-minus, milli-large, milli-over, milli-is, Part, part-in}
 use Rattle.milli.proofs.milli.Statement.{statement}
 use Rattle.milli.proofs.milli.Tie as tie
