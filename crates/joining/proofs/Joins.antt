@@ -13,8 +13,8 @@ use borrow.Author.Tests.{eq-eqb, ne-eqb, lt-ltb, le-ltb}
 use Rattle.laws.proofs.Choice.{chosen, passed, cond-both}
 use Rattle.quantile.specs.Rising.{at, rising}
 use Rattle.quantile.proofs.Inserting.{rising-same}
-use Rattle.rounds.specs.Numbers.{whole}
-use Rattle.rounds.specs.declared.Total.{Total}
+use Rattle.sums.specs.Numbers.{whole}
+use Rattle.sums.specs.declared.Total.{Total}
 use Rattle.rounds.specs.declared.Found.{Found}
 use Rattle.rounds.specs.declared.Found.the-variants.{Variance, Missing}
 use Rattle.joining.specs.Numbers.{half}

@@ -10,9 +10,9 @@ use Rattle.ieee.specs.Order.{larger}
 use Rattle.ieee.specs.Sqrt.{sqrt}
 use Rattle.laws.specs.Lists.{from}
 use Rattle.quantile.specs.Rising.{at, rising}
-use Rattle.rounds.specs.Numbers.{zero32, zero64, whole, rounding}
+use Rattle.sums.specs.Numbers.{zero32, zero64, whole, rounding}
 use Rattle.rounds.specs.Rounds.{band, bandVariance, imageVariance}
-use Rattle.rounds.specs.declared.Total.{Total}
+use Rattle.sums.specs.declared.Total.{Total}
 use Rattle.rounds.specs.declared.Settled.{Settled}
 use Rattle.rounds.specs.declared.Found.{Found}
 use Rattle.rounds.specs.declared.Found.the-variants.{Variance, Missing}

@@ -9,7 +9,7 @@ ghost use Rattle.joining.specs.Joining as Joining;
 ghost use Rattle.joining.specs.Joining.{variances, varianceOf, withFound, joinFrom, deviation, decided, sigmaOf, noise, counts, countOf};
 
 use rounds::Found;
-use rounds::Total;
+use sums::Total;
 
 // The standard deviation of the noise, or document 01's number of why there is none.
 pub enum Sigma {
@@ -179,7 +179,7 @@ fn add_band(k: Total, f: Found, most: f64) -> Total
     match f {
         Found::Variance(n, var) => {
             if var <= most {
-                return Total { n: k.n + n, sum: k.sum + rounds::whole(n) * var };
+                return Total { n: k.n + n, sum: k.sum + sums::whole(n) * var };
             }
             k
         }
@@ -201,5 +201,5 @@ fn decide(k: Total) -> Sigma
 fn deviation(k: Total) -> f32
     ensures { λ r. ⌜ r ≡ Joining.deviation k ⌝ }
 {
-    float::to_f32(float::sqrt64(k.sum / rounds::whole(k.n)) / 20.0)
+    float::to_f32(float::sqrt64(k.sum / sums::whole(k.n)) / 20.0)
 }

@@ -12,15 +12,16 @@ use lib.Ieee.{Float, binary64, add, mul, lt}
 use borrow.Author.Tests.{lt-ltb, le-ltb, lt-leb, le-leb}
 use Rattle.ieee.specs.Order.{larger}
 use Rattle.laws.proofs.Choice.{chosen, passed}
-use Rattle.rounds.specs.Numbers.{zero64, ratio, rounding}
-use Rattle.rounds.specs.Start.{start}
+use Rattle.sums.specs.Numbers.{zero64, rounding}
+use Rattle.rounds.specs.Numbers.{ratio}
+use Rattle.sums.specs.Start.{start}
 use Rattle.rounds.specs.Rounds.{settle, bandTotal, minBand, judged, bandBy, bandVariance, part, band, Bands, plus, bandsTotal, imageTotal, imageVariance}
-use Rattle.rounds.specs.declared.Total.{Total}
+use Rattle.sums.specs.declared.Total.{Total}
 use Rattle.rounds.specs.declared.Settled.{Settled}
 use Rattle.rounds.specs.declared.Found.{Found}
 use Rattle.rounds.specs.declared.Found.the-variants.{Variance, Missing}
 use Rattle.rounds.specs.declared.BandVariance.{BandVariance}
-use Rattle.rounds.proofs.Sums.{admitted-few}
+use Rattle.sums.proofs.Sums.{admitted-few}
 
 -- ---- whether a variance counts
 

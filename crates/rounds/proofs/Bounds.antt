@@ -11,15 +11,16 @@ use lib.ListN.{length}
 use lib.Ieee.{Float, binary64, mul, lt}
 use Rattle.ieee.specs.Order.{larger}
 use Rattle.laws.proofs.Choice.{cond-both}
-use Rattle.rounds.specs.Numbers.{ratio, rounding}
-use Rattle.rounds.specs.Start.{start}
+use Rattle.sums.specs.Numbers.{rounding}
+use Rattle.rounds.specs.Numbers.{ratio}
+use Rattle.sums.specs.Start.{start}
 use Rattle.rounds.specs.Rounds.{next, near, settledAt, round, rounds, most, noCount, settle, bandTotal, minBand, judged, bandBy, bandVariance, imageTotal, imageVariance}
-use Rattle.rounds.specs.declared.Total.{Total}
+use Rattle.sums.specs.declared.Total.{Total}
 use Rattle.rounds.specs.declared.Settled.{Settled}
 use Rattle.rounds.specs.declared.Found.{Found}
 use Rattle.rounds.specs.declared.Found.the-variants.{Variance, Missing}
 use Rattle.rounds.specs.declared.BandVariance.{BandVariance}
-use Rattle.rounds.proofs.Sums.{admitted-few}
+use Rattle.sums.proofs.Sums.{admitted-few}
 use Rattle.rounds.proofs.Turns.{most-is}
 
 -- what holds where a round is the last one, and of what follows otherwise

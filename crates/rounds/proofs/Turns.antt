@@ -8,9 +8,10 @@ use lib.Ieee.{Float, binary64, sub, mul, div, le}
 use borrow.Author.Tests.{eq-eqb, ne-eqb}
 use Rattle.ieee.specs.Order.{magnitude}
 use Rattle.laws.proofs.Choice.{chosen, passed, cond-both}
-use Rattle.rounds.specs.Numbers.{whole, settled, moment}
+use Rattle.sums.specs.Numbers.{whole}
+use Rattle.rounds.specs.Numbers.{settled, moment}
 use Rattle.rounds.specs.Rounds.{next, near, settledAt, round, rounds, most, noCount, settle}
-use Rattle.rounds.specs.declared.Total.{Total}
+use Rattle.sums.specs.declared.Total.{Total}
 use Rattle.rounds.specs.declared.Settled.{Settled}
 
 -- at most 12

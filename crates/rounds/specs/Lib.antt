@@ -1,5 +1,3 @@
--- The definitions that the contracts of the rounds cite, from the constants up.
+-- The rounds of the image and of a band.
 pub mod Numbers
-pub mod Admitted
-pub mod Start
 pub mod Rounds

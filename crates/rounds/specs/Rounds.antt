@@ -7,10 +7,11 @@ use lib.Dec.{eqb, ltb, leb}
 use lib.ListN.{length, getD, take, drop}
 use lib.Ieee.{Float, binary64, add, sub, mul, div, lt, le}
 use Rattle.ieee.specs.Order.{larger, magnitude}
-use Rattle.rounds.specs.Numbers.{zero64, whole, ratio, settled, rounding, moment}
-use Rattle.rounds.specs.Admitted.{admittedAt}
-use Rattle.rounds.specs.Start.{start}
-use Rattle.rounds.specs.declared.Total.{Total}
+use Rattle.sums.specs.Numbers.{zero64, whole, rounding}
+use Rattle.rounds.specs.Numbers.{ratio, settled, moment}
+use Rattle.sums.specs.Admitted.{admittedAt}
+use Rattle.sums.specs.Start.{start}
+use Rattle.sums.specs.declared.Total.{Total}
 use Rattle.rounds.specs.declared.Settled.{Settled}
 use Rattle.rounds.specs.declared.Found.{Found}
 use Rattle.rounds.specs.declared.Found.the-variants.{Variance, Missing}

@@ -5,7 +5,7 @@ use Rattle.joining.proofs.add_band.Statement.{statement}
 use Rattle.joining.proofs.add_band.Tie as tie
 use Rattle.joining.proofs.add_band.Reads as reads
 use Rattle.joining.proofs.add_band.Lts as lts
-use Rattle.rounds.proofs.whole.Reads as whole-reads
+use Rattle.sums.proofs.whole.Reads as whole-reads
 
 -- src/lib.rt:180:25
 enum-known-f : tie.Need-enum-known-f

@@ -11,7 +11,7 @@ use Rattle.joining.proofs.deviation.Reads as reads
 use Rattle.joining.proofs.deviation.Lts as lts
 use Rattle.float.proofs.sqrt64.Reads as sqrt64-reads
 use Rattle.float.proofs.to_f32.Reads as to-f32-reads
-use Rattle.rounds.proofs.whole.Reads as whole-reads
+use Rattle.sums.proofs.whole.Reads as whole-reads
 
 -- src/lib.rt:204:41
 whole-requires : tie.Need-whole-requires

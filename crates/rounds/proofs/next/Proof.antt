@@ -7,7 +7,7 @@ use Rattle.rounds.proofs.next.Statement.{statement}
 use Rattle.rounds.proofs.next.Tie as tie
 use Rattle.rounds.proofs.next.Reads as reads
 use Rattle.rounds.proofs.next.Lts as lts
-use Rattle.rounds.proofs.whole.Reads as whole-reads
+use Rattle.sums.proofs.whole.Reads as whole-reads
 
 -- src/lib.rt:174:13
 whole-requires : tie.Need-whole-requires

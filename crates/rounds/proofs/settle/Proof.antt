@@ -7,7 +7,7 @@ use Rattle.rounds.proofs.settle.Statement.{statement}
 use Rattle.rounds.proofs.settle.Tie as tie
 use Rattle.rounds.proofs.settle.Reads as reads
 use Rattle.rounds.proofs.settle.Lts as lts
-use Rattle.rounds.proofs.admitted.Reads as admitted-reads
+use Rattle.sums.proofs.admitted.Reads as admitted-reads
 use Rattle.rounds.proofs.near.Reads as near-reads
 use Rattle.rounds.proofs.next.Reads as next-reads
 

@@ -1,12 +1,12 @@
 use denote.Ref.{now}
-use Rattle.rounds.proofs.Starts.{start-is}
+use Rattle.sums.proofs.Starts.{start-is}
 use borrow.Author.Needs.{needs}
 use Rattle.rounds.proofs.start.Statement.{statement}
 use Rattle.rounds.proofs.start.Tie as tie
 use Rattle.rounds.proofs.start.Reads as reads
 use Rattle.rounds.proofs.start.Lts as lts
 use Rattle.quantile.proofs.quantile.Reads as quantile-reads
-use Rattle.rounds.proofs.mean_quiet.Reads as mean-quiet-reads
+use Rattle.sums.proofs.mean_quiet.Reads as mean-quiet-reads
 
 -- src/lib.rt:142:26
 quantile-requires : tie.Need-quantile-requires

@@ -1,14 +1,14 @@
 use Prim.Native.Nat.{_-_}
 use lib.ListN.{length}
-use Rattle.rounds.proofs.Starts.{Quiet, quiet-start, quiet-few, quiet-more, quiet-end}
+use Rattle.sums.proofs.Starts.{Quiet, quiet-start, quiet-few, quiet-more, quiet-end}
 use native.Mathlib.Omega.{arith}
-use Rattle.rounds.proofs.mean_quiet.Statement.{statement}
-use Rattle.rounds.proofs.mean_quiet.Tie as tie
-use Rattle.rounds.proofs.mean_quiet.Reads as reads
-use Rattle.rounds.proofs.mean_quiet.Lts as lts
-use Rattle.rounds.proofs.add_quiet.Reads as add-quiet-reads
-use Rattle.rounds.proofs.mean.Reads as mean-reads
-use Rattle.rounds.proofs.one_quiet.Reads as one-quiet-reads
+use Rattle.sums.proofs.mean_quiet.Statement.{statement}
+use Rattle.sums.proofs.mean_quiet.Tie as tie
+use Rattle.sums.proofs.mean_quiet.Reads as reads
+use Rattle.sums.proofs.mean_quiet.Lts as lts
+use Rattle.sums.proofs.add_quiet.Reads as add-quiet-reads
+use Rattle.sums.proofs.mean.Reads as mean-reads
+use Rattle.sums.proofs.one_quiet.Reads as one-quiet-reads
 
 abbrev Inv-loop : tie.InvT-loop
 Inv-loop op gate quiet sum₀ n₀ k₀ sum n k = Quiet op gate quiet sum n k

@@ -1,13 +1,13 @@
 use mathlib.Core.Path.{_∙_, ap}
 use lib.Ieee.{Float, binary32, binary64, mul}
 use Rattle.ieee.specs.Convert.{convert}
-use Rattle.rounds.specs.Numbers.{trunc}
-use Rattle.rounds.specs.Admitted.{cut}
+use Rattle.sums.specs.Numbers.{trunc}
+use Rattle.sums.specs.Admitted.{cut}
 use borrow.Author.Needs.{needs}
-use Rattle.rounds.proofs.cut.Statement.{statement}
-use Rattle.rounds.proofs.cut.Tie as tie
-use Rattle.rounds.proofs.cut.Reads as reads
-use Rattle.rounds.proofs.cut.Lts as lts
+use Rattle.sums.proofs.cut.Statement.{statement}
+use Rattle.sums.proofs.cut.Tie as tie
+use Rattle.sums.proofs.cut.Reads as reads
+use Rattle.sums.proofs.cut.Lts as lts
 use Rattle.float.proofs.max64.Reads as max64-reads
 use Rattle.float.proofs.to_f32.Reads as to-f32-reads
 

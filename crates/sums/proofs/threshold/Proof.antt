@@ -1,13 +1,13 @@
 use mathlib.Core.Path.{_∙_, ap}
 use lib.Ieee.{Float, binary32, binary64, mul}
 use Rattle.ieee.specs.Convert.{convert}
-use Rattle.rounds.specs.Numbers.{gate}
-use Rattle.rounds.specs.Admitted.{threshold}
+use Rattle.sums.specs.Numbers.{gate}
+use Rattle.sums.specs.Admitted.{threshold}
 use borrow.Author.Needs.{needs}
-use Rattle.rounds.proofs.threshold.Statement.{statement}
-use Rattle.rounds.proofs.threshold.Tie as tie
-use Rattle.rounds.proofs.threshold.Reads as reads
-use Rattle.rounds.proofs.threshold.Lts as lts
+use Rattle.sums.proofs.threshold.Statement.{statement}
+use Rattle.sums.proofs.threshold.Tie as tie
+use Rattle.sums.proofs.threshold.Reads as reads
+use Rattle.sums.proofs.threshold.Lts as lts
 use Rattle.float.proofs.max64.Reads as max64-reads
 use Rattle.float.proofs.to_f32.Reads as to-f32-reads
 

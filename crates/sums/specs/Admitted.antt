@@ -8,8 +8,8 @@ use Rattle.ieee.specs.Convert.{convert}
 use Rattle.ieee.specs.Order.{larger}
 use Rattle.quantile.specs.Tally.{tally}
 use Rattle.quantile.specs.Rising.{at}
-use Rattle.rounds.specs.Numbers.{zero32, zero64, gate, trunc, rounding}
-use Rattle.rounds.specs.declared.Total.{Total}
+use Rattle.sums.specs.Numbers.{zero32, zero64, gate, trunc, rounding}
+use Rattle.sums.specs.declared.Total.{Total}
 
 -- a gate is below the one, an output at most the other; both are rounded to f32
 unfoldable pub threshold : Float → Float

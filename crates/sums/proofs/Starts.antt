@@ -13,9 +13,9 @@ use Rattle.laws.proofs.Choice.{chosen, passed}
 use Rattle.quantile.specs.Tally.{tally}
 use Rattle.quantile.specs.Rising.{at}
 use Rattle.quantile.specs.Quantile.{quiet}
-use Rattle.rounds.specs.Numbers.{zero64, whole}
-use Rattle.rounds.specs.Start.{isQuiet, quietSum, mean, meanQuiet, start}
-use Rattle.rounds.proofs.Counts.{Tallied, tallied-start, tallied-few, tallied-more, tallied-end}
+use Rattle.sums.specs.Numbers.{zero64, whole}
+use Rattle.sums.specs.Start.{isQuiet, quietSum, mean, meanQuiet, start}
+use Rattle.sums.proofs.Counts.{Tallied, tallied-start, tallied-few, tallied-more, tallied-end}
 
 pub mean-none : (sum : Float) (n : ℕ) → n ≡ 0 → zero64 ≡ mean sum n
 unfolding mean

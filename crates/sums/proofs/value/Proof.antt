@@ -1,8 +1,8 @@
 use mathlib.Core.Path.{refl}
-use Rattle.rounds.proofs.value.Statement.{statement}
-use Rattle.rounds.proofs.value.Tie as tie
-use Rattle.rounds.proofs.value.Reads as reads
-use Rattle.rounds.proofs.value.Lts as lts
+use Rattle.sums.proofs.value.Statement.{statement}
+use Rattle.sums.proofs.value.Tie as tie
+use Rattle.sums.proofs.value.Reads as reads
+use Rattle.sums.proofs.value.Lts as lts
 
 -- src/lib.rt:94:1
 returns : tie.Need-returns

@@ -1,10 +1,10 @@
-use Rattle.rounds.proofs.Starts.{mean-none, mean-is}
+use Rattle.sums.proofs.Starts.{mean-none, mean-is}
 use borrow.Author.Needs.{needs}
-use Rattle.rounds.proofs.mean.Statement.{statement}
-use Rattle.rounds.proofs.mean.Tie as tie
-use Rattle.rounds.proofs.mean.Reads as reads
-use Rattle.rounds.proofs.mean.Lts as lts
-use Rattle.rounds.proofs.whole.Reads as whole-reads
+use Rattle.sums.proofs.mean.Statement.{statement}
+use Rattle.sums.proofs.mean.Tie as tie
+use Rattle.sums.proofs.mean.Reads as reads
+use Rattle.sums.proofs.mean.Lts as lts
+use Rattle.sums.proofs.whole.Reads as whole-reads
 
 -- src/lib.rt:287:36
 whole-requires : tie.Need-whole-requires

@@ -1,9 +1,9 @@
 use lib.Dec.{lit≤}
 use mathlib.Core.Path.{refl}
-use Rattle.rounds.proofs.one_quiet.Statement.{statement}
-use Rattle.rounds.proofs.one_quiet.Tie as tie
-use Rattle.rounds.proofs.one_quiet.Reads as reads
-use Rattle.rounds.proofs.one_quiet.Lts as lts
+use Rattle.sums.proofs.one_quiet.Statement.{statement}
+use Rattle.sums.proofs.one_quiet.Tie as tie
+use Rattle.sums.proofs.one_quiet.Reads as reads
+use Rattle.sums.proofs.one_quiet.Lts as lts
 
 -- src/lib.rt:277:1
 returns : tie.Need-returns

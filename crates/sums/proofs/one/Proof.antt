@@ -1,9 +1,9 @@
 use lib.Dec.{lit≤}
 use mathlib.Core.Path.{refl}
-use Rattle.rounds.proofs.one.Statement.{statement}
-use Rattle.rounds.proofs.one.Tie as tie
-use Rattle.rounds.proofs.one.Reads as reads
-use Rattle.rounds.proofs.one.Lts as lts
+use Rattle.sums.proofs.one.Statement.{statement}
+use Rattle.sums.proofs.one.Tie as tie
+use Rattle.sums.proofs.one.Reads as reads
+use Rattle.sums.proofs.one.Lts as lts
 
 -- src/lib.rt:101:1
 returns : tie.Need-returns

@@ -1,12 +1,12 @@
 use Prim.Native.Nat.{_-_}
-use Rattle.rounds.proofs.Sums.{Summed, summed-start, summed-few, summed-more, summed-end}
+use Rattle.sums.proofs.Sums.{Summed, summed-start, summed-few, summed-more, summed-end}
 use native.Mathlib.Omega.{arith}
-use Rattle.rounds.proofs.block.Statement.{statement}
-use Rattle.rounds.proofs.block.Tie as tie
-use Rattle.rounds.proofs.block.Reads as reads
-use Rattle.rounds.proofs.block.Lts as lts
-use Rattle.rounds.proofs.one.Reads as one-reads
-use Rattle.rounds.proofs.value.Reads as value-reads
+use Rattle.sums.proofs.block.Statement.{statement}
+use Rattle.sums.proofs.block.Tie as tie
+use Rattle.sums.proofs.block.Reads as reads
+use Rattle.sums.proofs.block.Lts as lts
+use Rattle.sums.proofs.one.Reads as one-reads
+use Rattle.sums.proofs.value.Reads as value-reads
 
 abbrev Inv-loop : tie.InvT-loop
 Inv-loop gate op a m t c sum₀ n₀ k₀ sum n k = Summed t c gate op a m sum n k

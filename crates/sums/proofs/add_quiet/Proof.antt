@@ -1,9 +1,9 @@
 use mathlib.Core.Path.{refl}
 use borrow.Author.Needs.{needs}
-use Rattle.rounds.proofs.add_quiet.Statement.{statement}
-use Rattle.rounds.proofs.add_quiet.Tie as tie
-use Rattle.rounds.proofs.add_quiet.Reads as reads
-use Rattle.rounds.proofs.add_quiet.Lts as lts
+use Rattle.sums.proofs.add_quiet.Statement.{statement}
+use Rattle.sums.proofs.add_quiet.Tie as tie
+use Rattle.sums.proofs.add_quiet.Reads as reads
+use Rattle.sums.proofs.add_quiet.Lts as lts
 use Rattle.std.proofs.num.f32_to_f64_with_nan.Reads as f32-to-f64-with-nan-reads
 
 -- src/lib.rt:273:27

@@ -1,17 +1,17 @@
 use mathlib.Core.Path.{_∙_}
 use Prim.Native.Nat.{_-_}
 use lib.ListN.{length}
-use Rattle.rounds.specs.Admitted.{blocks}
-use Rattle.rounds.proofs.Sums.{Added, added-start, added-few, added-more, added-end}
+use Rattle.sums.specs.Admitted.{blocks}
+use Rattle.sums.proofs.Sums.{Added, added-start, added-few, added-more, added-end}
 use native.Mathlib.Omega.{arith}
-use Rattle.rounds.proofs.admitted.Statement.{statement}
-use Rattle.rounds.proofs.admitted.Tie as tie
-use Rattle.rounds.proofs.admitted.Reads as reads
-use Rattle.rounds.proofs.admitted.Lts as lts
-use Rattle.rounds.proofs.block.Reads as block-reads
-use Rattle.rounds.proofs.block_len.Reads as block-len-reads
-use Rattle.rounds.proofs.cut.Reads as cut-reads
-use Rattle.rounds.proofs.threshold.Reads as threshold-reads
+use Rattle.sums.proofs.admitted.Statement.{statement}
+use Rattle.sums.proofs.admitted.Tie as tie
+use Rattle.sums.proofs.admitted.Reads as reads
+use Rattle.sums.proofs.admitted.Lts as lts
+use Rattle.sums.proofs.block.Reads as block-reads
+use Rattle.sums.proofs.block_len.Reads as block-len-reads
+use Rattle.sums.proofs.cut.Reads as cut-reads
+use Rattle.sums.proofs.threshold.Reads as threshold-reads
 use Rattle.std.proofs.num.f32_to_f64_with_nan.Reads as f32-to-f64-with-nan-reads
 
 abbrev Inv-loop : tie.InvT-loop

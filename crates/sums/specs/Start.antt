@@ -8,7 +8,7 @@ use lib.Ieee.{Float, binary64, add, div, le}
 use Rattle.quantile.specs.Tally.{tally}
 use Rattle.quantile.specs.Rising.{at}
 use Rattle.quantile.specs.Quantile.{quiet}
-use Rattle.rounds.specs.Numbers.{zero64, whole}
+use Rattle.sums.specs.Numbers.{zero64, whole}
 
 -- window k is quiet where its gate is at most q
 abbrev pub isQuiet : List Float → Float → ℕ → Bool

@@ -10,10 +10,10 @@ use lib.ListN.{length}
 use lib.Ieee.{Float, binary32, binary64, add}
 use Rattle.quantile.specs.Tally.{tally}
 use Rattle.quantile.specs.Rising.{at}
-use Rattle.rounds.specs.Numbers.{zero32, zero64}
-use Rattle.rounds.specs.Admitted.{threshold, cut, keeps, value, blockSum, blocksSum, blocks, admittedBy, admittedAt}
-use Rattle.rounds.specs.declared.Total.{Total}
-use Rattle.rounds.proofs.Counts.{tally-few, tally-add, Tallied, tallied-start, tallied-few, tallied-more, tallied-end}
+use Rattle.sums.specs.Numbers.{zero32, zero64}
+use Rattle.sums.specs.Admitted.{threshold, cut, keeps, value, blockSum, blocksSum, blocks, admittedBy, admittedAt}
+use Rattle.sums.specs.declared.Total.{Total}
+use Rattle.sums.proofs.Counts.{tally-few, tally-add, Tallied, tallied-start, tallied-few, tallied-more, tallied-end}
 
 module _ (t c : Float) (g o : List Float) where
   abbrev pub kept : ℕ → Bool
