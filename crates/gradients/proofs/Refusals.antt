@@ -1,15 +1,16 @@
 -- Which number a call gets, from the tests on the way: one law for each way out. Assumes nothing.
 use mathlib.Core.Path.{_≡_, refl, sym, ap, _∙_}
-use mathlib.Core.Bool.{Bool, true, false, cond, _&&_, false≢true}
+use mathlib.Core.Bool.{Bool, true, false, cond, _&&_}
 use mathlib.Core.List.{List}
 use Prim.Native.Nat.{ℕ, _+_, _*_, _≤_, _<_}
 use native.Mathlib.Omega.{arith}
-use lib.Dec.{eqb, ltb}
+use lib.Dec.{ltb}
 use lib.IntN.{ℤ, pos}
 use lib.ListN.{getD, take}
 use lib.Ieee.{Float, nan}
 use borrow.Author.Tests.{lt-ltb, le-ltb, ne-eqb, ltb-false}
 use Rattle.ieee.specs.Order.{finite}
+use Rattle.refine.proofs.Refusing.{stands, follows}
 use Rattle.refine.specs.Covariance.{judged}
 use Rattle.refine.specs.declared.Judged.the-variants.{Refused}
 use Rattle.gradients.specs.declared.PixelGradients.{PixelGradients}
@@ -19,17 +20,6 @@ use Rattle.gradients.specs.Gradients.{handed, column, row, addNumber, ad
 
 abbrev pub near-both : List ℤ → Bool
 near-both o = near (getD o 0 (pos 0)) && near (getD o 1 (pos 0))
-
-pub and : {a b p q : Bool} → a ≡ p → b ≡ q → a && b ≡ p && q
-and e f = cc
-
-pub and-left : (a b : Bool) → a && b ≡ true → a ≡ true
-and-left true b h = refl
-and-left false b h = h
-
-pub and-right : (a b : Bool) → a && b ≡ true → b ≡ true
-and-right true b h = h
-and-right false b h = absurd (false≢true h)
 
 module _ (o : List ℤ) (side : ℕ) where
   -- by the two tests, in their order
@@ -57,14 +47,6 @@ module _ (o : List ℤ) (side : ℕ) where
       by true true h k = omega arith
       by true false h k = k refl
       by false b h k = omega arith
-
--- ---- a number that refuses stands, and under 0 what follows is said
-
-pub stands : {A : Type 0} (refused : ℕ → A) (next : A) (n : ℕ) → (n ≡ 0 → ⊥) → {m : ℕ} → n ≡ m → refused n ≡ cond (eqb m 0) next (refused m)
-stands refused next n h e = ap (λ (b : Bool). cond b next (refused n)) (sym (ne-eqb n 0 h)) ∙ ap (λ (m : ℕ). cond (eqb m 0) next (refused m)) e
-
-pub follows : {A : Type 0} (refused : ℕ → A) (next : A) {m : ℕ} → 0 ≡ m → next ≡ cond (eqb m 0) next (refused m)
-follows refused next e = ap (λ (m : ℕ). cond (eqb m 0) next (refused m)) e
 
 -- ---- the state handed back
 

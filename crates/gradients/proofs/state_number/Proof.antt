@@ -5,7 +5,8 @@ use lib.IntN.{pos}
 use lib.ListN.{getD}
 use borrow.Author.Needs.{needs}
 use borrow.Author.Tests.{not-true, not-false}
-use Rattle.gradients.proofs.Refusals.{near-both, and, far, large, good}
+use Rattle.refine.proofs.Refusing.{and}
+use Rattle.gradients.proofs.Refusals.{near-both, far, large, good}
 use Rattle.gradients.proofs.Places.{near-held}
 use Rattle.gradients.proofs.state_number.Statement.{statement}
 use Rattle.gradients.proofs.state_number.Tie as tie
