@@ -1,42 +1,14 @@
--- The exact sizes of specs/Rounding, a fraction or its square root, among the fractions: they keep its order, and a size has a whole part at every denominator.
-use mathlib.Core.Path.{_≡_, refl, sym, ap, _∙_, subst}
+-- The exact sizes of specs/Rounding, a fraction or its square root, among the fractions: two fractions around a size are in order, it stays where it is at another denominator, and in parts of 1 / d it has
+-- a whole part (`part`).
+use mathlib.Core.Path.{_≡_, refl, sym}
 use mathlib.Core.Logic.{_⊎_, inl, inr}
-use Prim.Native.Nat.{ℕ, zero, suc, _+_, _-_, _*_, _/_, _%_, _^_, _≤_, _<_}
-use native.Mathlib.Nat.{le-trans, le-of-eq, le-of-lt, eq-or-lt-of-le, le-of-suc-le-suc, lt-of-not-le, lt-irrefl, lt-of-lt-of-le, not-le-of-lt, mul-assoc, mul-comm, mul-left-comm, mul-right-comm, mul-le-mul, mul-le-mul-right, le-of-mul-le-mul-right, mul-pos, add-mul, zero-mul, le-div-iff-mul-le, div-lt-iff-lt-mul}
+use Prim.Native.Nat.{ℕ, suc, _*_, _/_, _≤_, _<_}
+use native.Mathlib.Nat.{le-trans, le-of-eq, le-of-lt, lt-of-not-le, not-le-of-lt, mul-assoc, mul-comm, mul-left-comm, mul-right-comm, mul-le-mul, mul-le-mul-right, le-of-mul-le-mul-right, mul-pos, le-div-iff-mul-le, div-lt-iff-lt-mul}
 use native.Mathlib.Omega.{arith}
-use lib.Dec.{T, leb, leb→le, nleb→lt}
-use mathlib.Core.Bool.{Bool, true, false, not}
 use Rattle.ieee.specs.Sqrt.{root}
 use Rattle.ieee.specs.Rounding.{Exact, fraction, rootOf, AtLeast, AtMost}
-use Rattle.ieee.proofs.Roots.{root-is, le-or-lt}
-
--- ---- squares keep the order
-pub square-lt : (a b : ℕ) → a * a < b * b → a < b
-square-lt a b h = lt-of-not-le (λ (g : b ≤ a). lt-irrefl (a * a) (lt-of-lt-of-le h (mul-le-mul g g)))
-
-pub square-le : (a b : ℕ) → a * a ≤ b * b → a ≤ b
-square-le a b h = le-of-suc-le-suc (lt-of-not-le (λ (g : suc b ≤ a). not-le-of-lt (mul-lt g) h))
-  where
-    mul-lt : suc b ≤ a → b * b < a * a
-    mul-lt g = lt-of-lt-of-le {m = suc b * suc b} (omega arith) (mul-le-mul g g)
-
-pub trichotomy : (a b : ℕ) → (a < b) ⊎ ((a ≡ b) ⊎ (b < a))
-trichotomy a b = elim (le-or-lt b a) [ inl h ↦ inr (elim (eq-or-lt-of-le h) [ inl e ↦ inl (sym e) | inr l ↦ inr l ]) | inr h ↦ inl h ]
-
-pub sub-mul : (n t c : ℕ) → (n - t) * c ≡ n * c - t * c
-sub-mul n t c = elim (le-or-lt t n) [ inl h ↦ go (n - t) t n h refl | inr l ↦ none l (mul-le-mul-right c (le-of-lt l)) ]
-  where
-    go : (w t n : ℕ) → t ≤ n → w ≡ n - t → w * c ≡ n * c - t * c
-    go w t n h e =
-        let is : n ≡ w + t = omega arith in
-        let all : n * c ≡ w * c + t * c = ap (λ (x : ℕ). x * c) is ∙ add-mul w t c in
-        omega arith
-
-    none : n < t → n * c ≤ t * c → (n - t) * c ≡ n * c - t * c
-    none l h =
-        let z : n - t ≡ 0 = omega arith in
-        let y : (n - t) * c ≡ 0 = ap (λ (x : ℕ). x * c) z ∙ zero-mul c in
-        omega arith
+use Rattle.ieee.proofs.Naturals.{le-or-lt, square-le}
+use Rattle.ieee.proofs.Roots.{root-is}
 
 -- ---- the denominator is above 0
 abbrev pub Proper : Exact → Type 0
