@@ -3,3 +3,5 @@ pub mod Bounds
 pub mod Tables
 pub mod Formulas
 pub mod Refusals
+pub mod Laws
+pub mod Examples
