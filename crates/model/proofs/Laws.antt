@@ -6,14 +6,15 @@ use Prim.Native.Nat.{ℕ, zero, suc, _+_, _-_, _≤_, _<_}
 use native.Mathlib.Nat.{le-refl}
 use native.Mathlib.Numerals.{add-one}
 use native.Mathlib.Omega.{arith}
-use borrow.Author.Tests.{eqb-true}
 use lib.Dec.{eqb, ltb, leb}
 use lib.Ieee.{Float, nan, binary32, round, le, lt}
+use borrow.Author.Tests.{eqb-true}
 use Rattle.ieee.specs.Order.{finite, larger}
-use Rattle.refine.specs.Covariance.{sum}
+use Rattle.refine.specs.Covariance.{sum, allFinite}
 use Rattle.refine.specs.declared.PositionCovariance.{PositionCovariance}
 use Rattle.refine.specs.declared.Judged.{Judged}
 use Rattle.refine.specs.declared.Judged.the-variants.{Covariance, Refused}
+use Rattle.refine.proofs.Refusing.{and}
 use Rattle.model.specs.declared.SystematicModel.{SystematicModel}
 use Rattle.model.specs.declared.CovarianceModel.{CovarianceModel}
 use Rattle.model.specs.declared.At.{At}
@@ -21,12 +22,12 @@ use Rattle.model.specs.declared.Width.{Width}
 use Rattle.model.specs.declared.Width.the-variants.{Known, Unknown}
 use Rattle.model.specs.declared.Place.{Place}
 use Rattle.model.specs.declared.Place.the-variants.{Knot, Between}
-use Rattle.model.specs.Arith.{_⊖_, _⊘_, _⊗_, at, one, twelfth}
-use Rattle.model.specs.Ranges.{within, upTo}
+use Rattle.model.specs.Arith.{_⊖_, _⊘_, at, one, twelfth}
+use Rattle.model.specs.Ranges.{within, upTo, allWithin, bothWithin, level}
 use Rattle.model.specs.Knots.{every, risesAt, knotAt, rising, ranged, knotsNumber, between, place, Inside, blend, column, noKnots, atOf}
 use Rattle.model.specs.Systematic.{uniformVariance}
-use Rattle.model.specs.Noise.{variance, noiseAt, plus, total}
-use Rattle.refine.proofs.Refusing.{and}
+use Rattle.model.specs.Noise as Noise
+use Rattle.model.specs.Noise.{variance, noise, noiseAt, plus, total}
 use Rattle.model.proofs.Tables.{place-in, Seeking, seek-start, seek-more, seek-found, seek-end}
 use Rattle.model.proofs.Refusals.{knots}
 
@@ -149,13 +150,43 @@ module _ (n : ℕ) (f : Float) (l g r l′ g′ r′ : List Float)
     where
       N : ℕ
       N = knotsNumber (table n f l g r)
+
       found : List Float → List Float → List Float → At
       found l g r = record { number = 0; gain = column g (place l n w); residual = column r (place l n w) }
+
       same-found : 0 < n → found l g r ≡ found l′ g′ r′
       same-found p =
           let i = place-in l n n w p (le-refl n) in
           (λ k. record { number = 0; gain = column-same g g′ n (place l n w) i hg k; residual = column-same r r′ n (place l n w) i hr k })
           ∙ ap (λ (q : Place). record { number = 0; gain = column g′ q; residual = column r′ q }) (place-same l l′ n w p hl)
+
+-- ---- the noise part, the systematic part, growth and sigma are each judged, used or not
+
+judged : (m : CovarianceModel) (sigma : Float) → Noise.ranged m sigma ≡ false → noiseAt m sigma ≡ Refused 12
+unfolding noiseAt
+judged m sigma h = ap (λ (b : Bool). cond b (Covariance (noise m (variance sigma))) (Refused 12)) h
+
+module _ (m : CovarianceModel) (sigma : Float) where
+  pub judges-noise : allWithin 1000000 (m .noise) ≡ false → noiseAt m sigma ≡ Refused 12
+  judges-noise h = judged m sigma (ap (λ (b : Bool). ((b && allFinite (m .systematic)) && bothWithin 1000 (m .growth)) && level sigma) h)
+
+  pub judges-systematic : allFinite (m .systematic) ≡ false → noiseAt m sigma ≡ Refused 12
+  judges-systematic h =
+      judged m sigma
+      (ap (λ (b : Bool). ((allWithin 1000000 (m .noise) && b) && bothWithin 1000 (m .growth)) && level sigma) h
+      ∙ ap (λ (b : Bool). (b && bothWithin 1000 (m .growth)) && level sigma) (never (allWithin 1000000 (m .noise))))
+
+  pub judges-growth : bothWithin 1000 (m .growth) ≡ false → noiseAt m sigma ≡ Refused 12
+  judges-growth h =
+      judged m sigma
+      (ap (λ (b : Bool). ((allWithin 1000000 (m .noise) && allFinite (m .systematic)) && b) && level sigma) h
+      ∙ ap (λ (b : Bool). b && level sigma) (never (allWithin 1000000 (m .noise) && allFinite (m .systematic))))
+
+  pub judges-sigma : level sigma ≡ false → noiseAt m sigma ≡ Refused 12
+  judges-sigma h =
+      judged m sigma
+      (ap (λ (b : Bool). ((allWithin 1000000 (m .noise) && allFinite (m .systematic)) && bothWithin 1000 (m .growth)) && b) h
+      ∙ never ((allWithin 1000000 (m .noise) && allFinite (m .systematic)) && bothWithin 1000 (m .growth)))
 
 -- ---- the total
 

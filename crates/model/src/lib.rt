@@ -228,7 +228,10 @@ impl SystematicModel {
         if !rises(widths, count - 1) {
             return 14;
         }
-        if !(in_range(widths, count) & in_range(gains, count) & in_range(residuals, count) & up_to_thousand(self.floor)) {
+        if !(in_range(widths, count)
+            & in_range(gains, count)
+            & in_range(residuals, count)
+            & up_to_thousand(self.floor)) {
             return 12;
         }
         0
@@ -259,7 +262,13 @@ impl SystematicModel {
 
     // The covariance model of an estimate with noise term `noise`, at `offset` px from the centre of its fit window on a
     // grid of spacing `grid` px, with edges of width `width`.
-    pub fn model(self, noise: PositionCovariance, offset: [f32; 2], width: Width, grid: f32) -> Modelled
+    pub fn model(
+        self,
+        noise: PositionCovariance,
+        offset: [f32; 2],
+        width: Width,
+        grid: f32,
+    ) -> Modelled
         ensures { λ r. ⌜ r ≡ modelOf self noise offset width grid ⌝ }
     {
         let at = self.at(width);
