@@ -27,7 +27,7 @@ use Rattle.joining.specs.declared.Noise.{Noise}
 
 -- ---- rounds and counts fit
 
-rounds-few : (g o : List Float) (starts : List ℕ) (image : Float) (b : ℕ) → bandRounds g o starts image b ≤ 12 * b
+pub rounds-few : (g o : List Float) (starts : List ℕ) (image : Float) (b : ℕ) → bandRounds g o starts image b ≤ 12 * b
 rounds-few g o starts image zero = omega arith
 rounds-few g o starts image (suc b) =
     omega (arith, rounds-few g o starts image b, variance-rounds (band g starts b) (band o starts b) image)
