@@ -64,6 +64,7 @@ number-found bands kept g = elim (le-or-lt 1 (length (variances bands))) [
   where
     some : 1 ≤ length (variances bands) → length (variances bands) ≡ 0 → ⊥
     some h z = omega arith
+
     by-join : 1 ≤ length (variances bands) → ((joined bands .n < 512) × (numberOf (decided (joined bands)) ≡ 7)) ⊎ ((512 ≤ joined bands .n) × (numberOf (decided (joined bands)) ≡ 0))
         → numberOf (sigmaOf bands) ≡ numberOf (decided (joined bands)) → Reason kept (length (variances bands)) (joined bands .n) (numberOf (sigmaOf bands))
     by-join h (inl j) e = thin g h (j .0) (e ∙ j .1)
@@ -77,8 +78,8 @@ module _ (g o : List Float) (starts : List ℕ) where
   unfolding noise noiseUnder
   reason = elim (le-or-lt 512 (length g)) [
     | inl h ↦ subst (λ (x : Noise). Reason (length g) (length (variances bands)) (joined bands .n) (numberOf (x .sigma)))
-      (passed (ltb (length g) minSamples) (record { sigma = Number 5; rounds = 0 }) (noiseUnder g o starts (imageVariance g o starts)) (le-ltb (length g) minSamples h))
-      (number-found bands (length g) h)
+        (passed (ltb (length g) minSamples) (record { sigma = Number 5; rounds = 0 }) (noiseUnder g o starts (imageVariance g o starts)) (le-ltb (length g) minSamples h))
+        (number-found bands (length g) h)
     | inr h ↦ few h (ap (λ (x : Noise). numberOf (x .sigma)) (sym (noise-few g o starts h)))
   ]
 

@@ -7,7 +7,6 @@ ghost use Rattle.quantile.specs.Rising.{at, rising, inserted, Rises};
 ghost use Rattle.rounds.specs.Rounds.{part, bandVariance, Bands};
 ghost use Rattle.joining.specs.Joining as Joining;
 ghost use Rattle.joining.specs.Joining.{variances, varianceOf, withFound, joinFrom, deviation, decided, sigmaOf, noise, counts, countOf};
-
 use rounds::Found;
 use sums::Total;
 
@@ -29,7 +28,10 @@ pub fn noise_sigma(gate: &[f32], op: &[f32], starts: &[usize; 5]) -> Noise
     ensures { λ r. ⌜ r ≡ noise (now (gate .entry)) (now (op .entry)) (now (starts .entry)) ⌝ }
 {
     if gate.len() < 512 {
-        return Noise { sigma: Sigma::Number(5), rounds: 0 };
+        return Noise {
+            sigma: Sigma::Number(5),
+            rounds: 0,
+        };
     }
     let image = rounds::image_variance(gate, op, starts);
     let image_var = image.var;
@@ -45,11 +47,20 @@ pub fn noise_sigma(gate: &[f32], op: &[f32], starts: &[usize; 5]) -> Noise
         rounds = rounds + v.rounds;
         b += 1;
     }
-    Noise { sigma: join(bands), rounds: rounds }
+    Noise {
+        sigma: join(bands),
+        rounds: rounds,
+    }
 }
 
 // The variance of the band from a to e.
-fn band_variance(gate: &[f32], op: &[f32], a: usize, e: usize, image_var: f64) -> rounds::BandVariance
+fn band_variance(
+    gate: &[f32],
+    op: &[f32],
+    a: usize,
+    e: usize,
+    image_var: f64,
+) -> rounds::BandVariance
     requires { ⌜ (a ≤ e) × (e ≤ length (now gate)) × (length (now gate) ≡ length (now op)) ⌝ }
     ensures { λ r. ⌜ r ≡ bandVariance (part (now (gate .entry)) a e) (part (now (op .entry)) a e) «image_var» ⌝ }
 {
@@ -105,10 +116,12 @@ fn median(vars: &[f64; 4], n: usize) -> f64
     ensures { λ r. ⌜ r ≡ Joining.median (take n (now (vars .entry))) ⌝ }
 {
     let l = sort(vars, n);
+    let high = l[n / 2];
     if n % 2 == 1 {
-        return l[n / 2];
+        return high;
     }
-    0.5 * (l[n / 2 - 1] + l[n / 2])
+    let low = l[n / 2 - 1];
+    0.5 * (low + high)
 }
 
 // The first n in rising order, and then no numbers.
@@ -179,7 +192,10 @@ fn add_band(k: Total, f: Found, most: f64) -> Total
     match f {
         Found::Variance(n, var) => {
             if var <= most {
-                return Total { n: k.n + n, sum: k.sum + sums::whole(n) * var };
+                return Total {
+                    n: k.n + n,
+                    sum: k.sum + sums::whole(n) * var,
+                };
             }
             k
         }

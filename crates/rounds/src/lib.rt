@@ -5,7 +5,6 @@ ghost use lib.ListN.{length};
 ghost use Rattle.sums.specs.Start as Start;
 ghost use Rattle.rounds.specs.Rounds as Rounds;
 ghost use Rattle.rounds.specs.Rounds.{judged, bandTotal, bandVariance, part, Bands, imageTotal, imageVariance};
-
 use sums::Total;
 
 // Where rounds end: the count and the variance of the last one, and how many were evaluated.
@@ -32,10 +31,16 @@ pub fn variance(gate: &[f32], op: &[f32], image_var: f64) -> BandVariance
     ensures { λ r. ⌜ r ≡ bandVariance (now (gate .entry)) (now (op .entry)) «image_var» ⌝ }
 {
     if gate.len() < 128 {
-        return BandVariance { found: Found::Missing, rounds: 0 };
+        return BandVariance {
+            found: Found::Missing,
+            rounds: 0,
+        };
     }
     let s = settle(gate, op, start(gate, op));
-    BandVariance { found: judge(s, image_var), rounds: s.rounds }
+    BandVariance {
+        found: judge(s, image_var),
+        rounds: s.rounds,
+    }
 }
 
 // Where the rounds over some windows start.
@@ -59,16 +64,28 @@ fn settle(gate: &[f32], op: &[f32], start: f64) -> Settled
         let n = k.n;
         r += 1;
         if n == 0 {
-            return Settled { n: 0, var: var, rounds: r };
+            return Settled {
+                n: 0,
+                var: var,
+                rounds: r,
+            };
         }
         let new = next(k);
         if near(n, prev, new, var) {
-            return Settled { n: n, var: new, rounds: r };
+            return Settled {
+                n: n,
+                var: new,
+                rounds: r,
+            };
         }
         var = new;
         prev = n;
     }
-    Settled { n: prev, var: var, rounds: r }
+    Settled {
+        n: prev,
+        var: var,
+        rounds: r,
+    }
 }
 
 // The variance that the admitted windows yield.
@@ -108,22 +125,34 @@ pub fn image_variance(gate: &[f32], op: &[f32], starts: &[usize; 5]) -> Settled
 {
     let mut var = start(gate, op);
     let mut prev: usize = 18446744073709551615;
-    let mut r: usize = 0;
-    while r < 12 {
+    let mut rounds: usize = 0;
+    while rounds < 12 {
         let k = image_admitted(gate, op, starts, var);
         let n = k.n;
-        r += 1;
+        rounds += 1;
         if n == 0 {
-            return Settled { n: 0, var: var, rounds: r };
+            return Settled {
+                n: 0,
+                var: var,
+                rounds: rounds,
+            };
         }
         let new = next(k);
         if near(n, prev, new, var) {
-            return Settled { n: n, var: new, rounds: r };
+            return Settled {
+                n: n,
+                var: new,
+                rounds: rounds,
+            };
         }
         var = new;
         prev = n;
     }
-    Settled { n: prev, var: var, rounds: r }
+    Settled {
+        n: prev,
+        var: var,
+        rounds: rounds,
+    }
 }
 
 // The windows admitted in the four bands, each summed by itself.

@@ -124,7 +124,11 @@ pub fn mean_quiet(op: &[f32], gate: &[f32], quiet: f32) -> f64
 fn add_quiet(sum: f64, g: f32, o: f32, quiet: f32) -> f64
     ensures { λ r. ⌜ r ≡ cond (le g quiet) (add binary64 sum o) sum ⌝ }
 {
-    if g <= quiet { sum + std::num::f32_to_f64_with_nan(o) } else { sum }
+    if g <= quiet {
+        sum + std::num::f32_to_f64_with_nan(o)
+    } else {
+        sum
+    }
 }
 
 // 1 where the gate is quiet.

@@ -8,31 +8,25 @@ use Rattle.joining.proofs.median.Tie as tie
 sort-requires : tie.Need-sort-requires
 sort-requires c κs = search needs
 
-mul-result : tie.Need-mul-result
-mul-result c = search needs
+mul-high : tie.Need-mul-high
+mul-high c = search needs
 
-array-read-result : tie.Need-array-read-result
-array-read-result c = search needs
+array-read-high : tie.Need-array-read-high
+array-read-high c = search needs
 
 returns : tie.Need-returns
 returns c =
     let s = c .before .before in
     median-odd (now (s .args .vars)) (s .args .n) (s .pre .2) (s .pre .1) (c .before .sort .result) (c .before .sort .ensures) (c .if1 .taken)
 
-sub-result : tie.Need-sub-result
-sub-result c = search needs
+sub-low : tie.Need-sub-low
+sub-low c = search needs
 
-mul-result-2 : tie.Need-mul-result-2
-mul-result-2 c = search needs
+mul-low : tie.Need-mul-low
+mul-low c = search needs
 
-array-read-result-2 : tie.Need-array-read-result-2
-array-read-result-2 c = search needs
-
-mul-result-3 : tie.Need-mul-result-3
-mul-result-3 c = search needs
-
-array-read-result-3 : tie.Need-array-read-result-3
-array-read-result-3 c = search needs
+array-read-low : tie.Need-array-read-low
+array-read-low c = search needs
 
 returns-2 : tie.Need-returns-2
 returns-2 c =
@@ -44,12 +38,10 @@ median-spec =
     tie.close
     (tie.spec
     sort-requires
-    mul-result
-    array-read-result
+    mul-high
+    array-read-high
     returns
-    sub-result
-    mul-result-2
-    array-read-result-2
-    mul-result-3
-    array-read-result-3
+    sub-low
+    mul-low
+    array-read-low
     returns-2)

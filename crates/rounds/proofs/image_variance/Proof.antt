@@ -9,10 +9,10 @@ use Rattle.rounds.proofs.image_variance.Statement.{statement}
 use Rattle.rounds.proofs.image_variance.Tie as tie
 
 abbrev Inv-loop : tie.InvT-loop
-Inv-loop gate op starts var₀ prev₀ r₀ var prev r = Turning most (imageTotal gate op starts) var₀ var prev r
+Inv-loop gate op starts var₀ prev₀ rounds₀ var prev rounds = Turning most (imageTotal gate op starts) var₀ var prev rounds
 
 abbrev μ-loop : tie.MeasureT-loop
-μ-loop gate op starts var₀ prev₀ r₀ var prev r = 12 - r
+μ-loop gate op starts var₀ prev₀ rounds₀ var prev rounds = 12 - rounds
 
 start-requires : tie.Need-start-requires Inv-loop μ-loop
 start-requires c κs = c .before .before .pre .same
@@ -23,8 +23,8 @@ loop-holds c = turning-start _ _ _
 image-admitted-requires : tie.Need-image-admitted-requires Inv-loop μ-loop
 image-admitted-requires c κs = c .before .before .before .before .before .pre
 
-add-r : tie.Need-add-r Inv-loop μ-loop
-add-r c = omega arith
+add-rounds : tie.Need-add-rounds Inv-loop μ-loop
+add-rounds c = omega arith
 
 returns : tie.Need-returns Inv-loop μ-loop
 returns c =
@@ -70,7 +70,7 @@ image-variance-spec =
     start-requires
     loop-holds
     image-admitted-requires
-    add-r
+    add-rounds
     returns
     next-requires
     near-requires

@@ -40,8 +40,11 @@ f32-to-f64-with-nan-requires c κs = tt
 add-n : tie.Need-add-n Inv-loop μ-loop
 add-n c =
     let b = c .before .before in
-    omega (arith, added-few (added-more (b .before .before .before .loop .inv) (b .before .before .loop-test .taken)
-    (b .before .block-len .ensures) (b .block .ensures .0) (c .before .f32-to-f64-with-nan .ensures) (b .block .ensures .1)))
+    omega (
+      arith,
+      added-few (added-more (b .before .before .before .loop .inv) (b .before .before .loop-test .taken)
+          (b .before .block-len .ensures) (b .block .ensures .0) (c .before .f32-to-f64-with-nan .ensures) (b .block .ensures .1)),
+    )
 
 add-i : tie.Need-add-i Inv-loop μ-loop
 add-i c = omega arith
