@@ -10,6 +10,13 @@ ghost use Rattle.joining.specs.Joining.{variances, varianceOf, withFound
 use rounds::Found;
 use sums::Total;
 
+// A band whose variance is above this many times the median holds structure.
+const MAX_BAND_OUTLIER: f64 = 3.0;
+// Fewer windows give no figure.
+const MIN_SAMPLES: usize = 512;
+// The operator's standard deviation for one gray level of noise.
+const OPERATOR_GAIN: f64 = 20.0;
+
 // The standard deviation of the noise, or document 01's number of why there is none.
 pub enum Sigma {
     Figure(f32),
@@ -27,7 +34,7 @@ pub fn noise_sigma(gate: &[f32], op: &[f32], starts: &[usize; 5]) -> Noise
     requires { ⌜ Bands (now gate) (now op) (now starts) ⌝ }
     ensures { λ r. ⌜ r ≡ noise (now (gate .entry)) (now (op .entry)) (now (starts .entry)) ⌝ }
 {
-    if gate.len() < 512 {
+    if gate.len() < MIN_SAMPLES {
         return Noise {
             sigma: Sigma::Number(5),
             rounds: 0,
@@ -38,7 +45,7 @@ pub fn noise_sigma(gate: &[f32], op: &[f32], starts: &[usize; 5]) -> Noise
     let mut bands = [Found::Missing; 4];
     let mut rounds = image.rounds;
     let mut b: usize = 0;
-    while b < 4 {
+    while b < rounds::BANDS {
         let a = starts[b];
         let e = starts[b + 1];
         let v = band_variance(gate, op, a, e, image_var);
@@ -88,7 +95,7 @@ fn collect(bands: [Found; 4], vars: &mut [f64; 4]) -> usize
 {
     let mut n: usize = 0;
     let mut b: usize = 0;
-    while b < 4 {
+    while b < rounds::BANDS {
         let f = bands[b];
         n = push(vars, n, f);
         b += 1;
@@ -166,7 +173,7 @@ fn insert(least: &mut [f64; 4], v: f64)
 fn lid(median: f64) -> f64
     ensures { λ r. ⌜ r ≡ Joining.lid median ⌝ }
 {
-    3.0 * float::max64(median, 33.333333333333336)
+    MAX_BAND_OUTLIER * float::max64(median, sums::ROUNDING_OP_VAR)
 }
 
 // The bands whose variance is at most most: how many windows they admit, and their variances' sum, each times its count.
@@ -176,7 +183,7 @@ fn joined(bands: [Found; 4], most: f64) -> Total
 {
     let mut k = Total { n: 0, sum: 0.0 };
     let mut b: usize = 0;
-    while b < 4 {
+    while b < rounds::BANDS {
         let f = bands[b];
         k = add_band(k, f, most);
         b += 1;
@@ -207,7 +214,7 @@ fn add_band(k: Total, f: Found, most: f64) -> Total
 fn decide(k: Total) -> Sigma
     ensures { λ r. ⌜ r ≡ decided k ⌝ }
 {
-    if k.n < 512 {
+    if k.n < MIN_SAMPLES {
         return Sigma::Number(7);
     }
     Sigma::Figure(deviation(k))
@@ -217,5 +224,5 @@ fn decide(k: Total) -> Sigma
 fn deviation(k: Total) -> f32
     ensures { λ r. ⌜ r ≡ Joining.deviation k ⌝ }
 {
-    float::to_f32(float::sqrt64(k.sum / sums::whole(k.n)) / 20.0)
+    float::to_f32(float::sqrt64(k.sum / sums::whole(k.n)) / OPERATOR_GAIN)
 }

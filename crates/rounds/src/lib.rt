@@ -7,6 +7,19 @@ ghost use Rattle.rounds.specs.Rounds as Rounds;
 ghost use Rattle.rounds.specs.Rounds.{judged, bandTotal, bandVariance, part, Bands, imageTotal, imageVariance};
 use sums::Total;
 
+// A band whose variance is above this many times the image's holds structure.
+const MAX_BAND_RATIO: f64 = 8.0;
+// A band needs this many admitted windows.
+const MIN_BAND_SAMPLES: usize = 128;
+// Rounds are settled when the variance moves by at most this fraction.
+const SETTLED: f64 = 0.001;
+// The most rounds.
+const ROUNDS: usize = 12;
+// Intensity bands.
+pub const BANDS: usize = 4;
+// The mean square of a standard normal number that lies within TRUNC of 0.
+const TRUNC_SECOND_MOMENT: f64 = 0.998929;
+
 // Where rounds end: the count and the variance of the last one, and how many were evaluated.
 pub struct Settled {
     pub n: usize,
@@ -30,7 +43,7 @@ pub fn variance(gate: &[f32], op: &[f32], image_var: f64) -> BandVariance
     requires { ⌜ length (now gate) ≡ length (now op) ⌝ }
     ensures { λ r. ⌜ r ≡ bandVariance (now (gate .entry)) (now (op .entry)) «image_var» ⌝ }
 {
-    if gate.len() < 128 {
+    if gate.len() < MIN_BAND_SAMPLES {
         return BandVariance {
             found: Found::Missing,
             rounds: 0,
@@ -59,7 +72,7 @@ fn settle(gate: &[f32], op: &[f32], start: f64) -> Settled
     let mut var = start;
     let mut prev: usize = 18446744073709551615;
     let mut r: usize = 0;
-    while r < 12 {
+    while r < ROUNDS {
         let k = sums::admitted(gate, op, var, var);
         let n = k.n;
         r += 1;
@@ -92,7 +105,7 @@ fn settle(gate: &[f32], op: &[f32], start: f64) -> Settled
 fn next(k: Total) -> f64
     ensures { λ r. ⌜ r ≡ Rounds.next k ⌝ }
 {
-    k.sum / sums::whole(k.n) / 0.998929
+    k.sum / sums::whole(k.n) / TRUNC_SECOND_MOMENT
 }
 
 // Whether the rounds end here.
@@ -102,17 +115,17 @@ fn near(n: usize, prev: usize, new: f64, var: f64) -> bool
     if n == prev {
         return true;
     }
-    float::abs64(new - var) <= 0.001 * var
+    float::abs64(new - var) <= SETTLED * var
 }
 
 // Whether a band's variance counts.
 fn judge(s: Settled, image_var: f64) -> Found
     ensures { λ r. ⌜ r ≡ judged s «image_var» ⌝ }
 {
-    if s.n < 128 {
+    if s.n < MIN_BAND_SAMPLES {
         return Found::Missing;
     }
-    if s.var > 8.0 * float::max64(image_var, 33.333333333333336) {
+    if s.var > MAX_BAND_RATIO * float::max64(image_var, sums::ROUNDING_OP_VAR) {
         return Found::Missing;
     }
     Found::Variance(s.n, s.var)
@@ -126,7 +139,7 @@ pub fn image_variance(gate: &[f32], op: &[f32], starts: &[usize; 5]) -> Settled
     let mut var = start(gate, op);
     let mut prev: usize = 18446744073709551615;
     let mut rounds: usize = 0;
-    while rounds < 12 {
+    while rounds < ROUNDS {
         let k = image_admitted(gate, op, starts, var);
         let n = k.n;
         rounds += 1;
@@ -163,7 +176,7 @@ fn image_admitted(gate: &[f32], op: &[f32], starts: &[usize; 5], var: f64) -> To
     let mut sum = 0.0f64;
     let mut n: usize = 0;
     let mut b: usize = 0;
-    while b < 4 {
+    while b < BANDS {
         let a = starts[b];
         let e = starts[b + 1];
         let k = band_admitted(gate, op, a, e, var);

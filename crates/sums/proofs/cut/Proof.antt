@@ -16,7 +16,7 @@ to-f32-requires c κs = search needs
 
 returns : tie.Need-returns
 unfolding cut
-returns c = c .to-f32 .ensures ∙ ap (λ (x : Float). convert binary32 (mul binary64 trunc x)) (c .before .max64 .ensures)
+returns c = c .to-f32 .ensures ∙ ap (λ (x : Float). convert binary32 (mul binary64 (mul binary64 trunc trunc) x)) (c .before .max64 .ensures)
 
 pub cut-spec : {M : Type 1} → statement M
 cut-spec = tie.close (tie.spec max64-requires to-f32-requires returns)
