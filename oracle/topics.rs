@@ -4,7 +4,9 @@
 use crate::{images::Image, random, speed::beside, value::Value, Run, Stored, Topic};
 
 mod floats;
+mod grid;
 mod known;
 mod patterns;
+mod sample;
 
-pub const ALL: &[Topic] = &[known::TOPIC, floats::TOPIC, patterns::TOPIC];
+pub const ALL: &[Topic] = &[known::TOPIC, floats::TOPIC, grid::TOPIC, sample::TOPIC, patterns::TOPIC];
