@@ -2,20 +2,21 @@
 -- of 2 ^ k (`next-up`), and two values of the same sign and size are the same (`same-value`).
 use mathlib.Core.Path.{_≡_, refl, sym, ap, _∙_, subst}
 use mathlib.Core.Logic.{_⊎_, inl, inr}
-use mathlib.Core.Bool.{Bool, true, false, _&&_}
-use Prim.Native.Nat.{ℕ, zero, suc, _+_, _-_, _*_, _/_, _%_, _^_, _≤_, _<_}
-use native.Mathlib.Nat.{le-trans, le-of-eq, le-of-lt, lt-of-le-of-lt, mul-assoc, mul-one, one-mul, mul-le-mul-right, lt-of-mul-lt-mul-right, eq-of-mul-eq-mul-right, zero-mul, mul-pos, mul-right-comm, pow-succ'}
+use mathlib.Core.Bool.{Bool, _&&_}
+use Prim.Native.Nat.{ℕ, zero, suc, _+_, _-_, _*_, _%_, _^_, _≤_, _<_}
+use native.Mathlib.Nat.{le-trans, le-of-eq, le-of-lt, lt-of-le-of-lt, mul-assoc, mul-one, one-mul, mul-le-mul-right, lt-of-mul-lt-mul-right, zero-mul, mul-pos, mul-right-comm, mul-lt-mul-of-pos-right, pow-succ'}
 use native.Mathlib.Omega.{arith}
 use lib.Dec.{T, ltb, leb, eqb, ltb→lt, leb→le, eqb→eq}
 use lib.IntN.{ℤ, pos, negsuc}
 use lib.Pow.{pow-add, pow-pos, shl-lt}
-use lib.Ieee.{Float, nan, inf, fin, Format, prec, emax, low, up, down, fits, ofBits, toBits}
+use lib.Ieee.{Float, nan, inf, fin, Format, prec, emax, low, up, down, fits, ofBits}
 use lib.Ieee.Fits.{and-l, and-r, down-pos}
 use lib.Ieee.Bits.{ofBits-toBits}
 use lib.Ieee.Digits.{back}
 use lib.Ieee.Exact.{HasValue}
 use Rattle.ieee.specs.Order.{finite}
-use Rattle.ieee.proofs.Laws.{pow-lt-back, pow-le-back, toBits-value}
+use Rattle.ieee.proofs.Naturals.{pow-lt-back, pow-le-back}
+use Rattle.ieee.proofs.Patterns.{toBits-value}
 
 -- Y has at most p digits, but for zeros behind them
 abbrev pub Grid : ℕ → ℕ → Type 0
@@ -75,8 +76,7 @@ module _ (f : Format) (s : Bool) where
       let C = leb (down e) (2 ^ low f) in
       leb→le (down e) (2 ^ low f) (and-r (A && B) C (and-l (A && B && C) (ltb (suc m * up e) (2 ^ suc (emax f) * down e)) F))
 
-  -- below 2 ^ (emax + 1)
-  pub in-range : (m : ℕ) (e : ℤ) → T (fits f (fin s m e)) → m * up e < 2 ^ suc (emax f) * down e
+  in-range : (m : ℕ) (e : ℤ) → T (fits f (fin s m e)) → m * up e < 2 ^ suc (emax f) * down e
   unfolding fits
   in-range zero e F = rw (zero-mul (up e)) (mul-pos (pow-pos (suc (emax f))) (down-pos e))
   in-range (suc m) e F =
@@ -115,17 +115,9 @@ on-grid f (fin s m e) F N = let p = placed f s m e (few f s m e F) (deep f s m e
 pub same-value : (f : Format) (x y : Float) (s : Bool) (a : ℕ) → T (fits f x) → T (fits f y) → HasValue x s a (2 ^ low f) → HasValue y s a (2 ^ low f) → x ≡ y
 same-value f x y s a F G v w = sym (ofBits-toBits f x F) ∙ ap (ofBits f) (toBits-value f x s a v ∙ sym (toBits-value f y s a w)) ∙ ofBits-toBits f y G
 
-pub value-unique : (x : Float) (s : Bool) (a b c : ℕ) → HasValue x s a c → HasValue x s b c → a ≡ b
-value-unique nan s a b c v w = absurd v
-value-unique (inf t) s a b c v w = absurd v
-value-unique (fin t m e) s a b c v w = eq-of-mul-eq-mul-right (down e) (down-pos e) a b (sym (v .1) ∙ w .1)
-
--- the same size as another fraction
-pub rescale : (x : Float) (s : Bool) (w l num den : ℕ) → 0 < l → num * l ≡ w * den → HasValue x s w l → HasValue x s num den
-rescale nan s w l num den p h v = v
-rescale (inf t) s w l num den p h v = v
-rescale (fin t m e) s w l num den p h v = (
-  v .0,
-  eq-of-mul-eq-mul-right l p (m * up e * den) (num * down e)
-      (mul-right-comm (m * up e) den l ∙ ap (λ (x : ℕ). x * den) (v .1) ∙ mul-right-comm w (down e) den ∙ ap (λ (x : ℕ). x * down e) (sym h) ∙ mul-right-comm num l (down e)),
-)
+-- below 2 ^ (emax + 1)
+pub value-small : (f : Format) (x : Float) (s : Bool) (a c : ℕ) → 0 < c → T (fits f x) → HasValue x s a c → a < 2 ^ suc (emax f) * c
+value-small f nan s a c C F v = absurd v
+value-small f (inf t) s a c C F v = absurd v
+value-small f (fin t m e) s a c C F v =
+    lt-of-mul-lt-mul-right (down e) (subst (λ (x : ℕ). x < 2 ^ suc (emax f) * c * down e) (v .1) (subst (λ (x : ℕ). m * up e * c < x) (mul-right-comm (2 ^ suc (emax f)) (down e) c) (mul-lt-mul-of-pos-right (in-range f t m e F) C)))

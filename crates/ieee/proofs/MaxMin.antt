@@ -1,18 +1,17 @@
 -- `larger` and `smaller` give one of their operands, not below (above) either, the other one beside a NaN, and the first of two that are equal: so which of -0 and +0 comes back is up to their order.
 -- Both pick the second operand only where a relation R says that it is past the first; R is `<` for `larger` and `>` for `smaller`.
-use mathlib.Core.Path.{_≡_, refl, sym, ap, _∙_, subst}
+use mathlib.Core.Path.{_≡_, refl, sym, ap, _∙_}
 use mathlib.Core.Logic.{_⊎_, inl, inr}
-use mathlib.Core.Bool.{Bool, true, false, cond, _&&_, _||_, Bool·beq, true≢false, false≢true}
+use mathlib.Core.Bool.{Bool, true, false, cond, _||_, Bool·beq, true≢false, false≢true}
 use Prim.Native.Nat.{ℕ, _+_, _*_}
 use native.Mathlib.Omega.{arith}
-use lib.Dec.{T, ltb, eqb, eqb→eq}
+use lib.Dec.{T, eqb, eqb→eq}
 use lib.IntN.{pos}
 use lib.Ieee.{Float, nan, inf, fin, up, down, below, level, lt, eq, isNan}
 use lib.Ieee.Fits.{and-l, and-r}
 use borrow.Author.Tests.{le-ltb}
-use Rattle.ieee.specs.Order.{larger, smaller, totalLess}
-use Rattle.ieee.proofs.Laws.{yes}
-use Rattle.ieee.proofs.Wraps.{above-plain, below-plain}
+use Rattle.ieee.specs.Order.{larger, smaller}
+use Rattle.ieee.proofs.Tests.{yes}
 use Rattle.ieee.proofs.TotalOrder.{transitive, irreflexive, as-less}
 
 -- ---- `<` is a strict order, and nothing is below a float that it equals
@@ -114,7 +113,7 @@ by-less = record { same = lt-irreflexive; turned = lt-asymmetric; no-nan = lt-na
 by-more : Strict (λ x y. lt y x)
 by-more = record { same = lt-irreflexive; turned = λ x y h. lt-asymmetric y x h; no-nan = nan-lt; equal = λ x y h. eq-not-lt x y h .1 }
 
--- ---- the larger
+-- ---- the larger, and the smaller
 module _ (a b : Float) where
   pub larger-picks : Picked lt a b (larger a b)
   unfolding larger

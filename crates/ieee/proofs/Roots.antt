@@ -1,16 +1,16 @@
--- Square roots of whole numbers: `root n` is the whole part of n's root (`root-is`, `root-unique`), and the step of the loop that works one out. Assumes nothing.
-use mathlib.Core.Path.{_≡_, refl, sym, ap, _∙_, subst}
-use mathlib.Core.Logic.{_⊎_, inl, inr}
+-- Square roots of whole numbers: `root n` is the whole part of n's root (`root-is`, `root-unique`), and the step of the loop that works one out.
+use mathlib.Core.Path.{_≡_, sym, ap, _∙_, subst}
+use mathlib.Core.Logic.{inl, inr}
 use mathlib.Core.Bool.{Bool, true, false, not, cond}
-use Prim.Native.Nat.{ℕ, zero, suc, _+_, _-_, _*_, _/_, _%_, _^_, _≤_, _<_, compare}
-use native.Mathlib.Nat.{le-trans, lt-of-lt-of-le, lt-of-le-of-lt, lt-of-not-le, le-antisymm, le-of-suc-le-suc, not-le-of-lt, lt-irrefl, mul-le-mul, pow-suc, pow-le-pow-left, mul-one}
+use Prim.Native.Nat.{ℕ, zero, suc, _+_, _-_, _*_, _/_, _%_, _^_, _≤_, _<_}
+use native.Mathlib.Nat.{le-trans, lt-of-lt-of-le, lt-of-not-le, le-antisymm, le-of-suc-le-suc, lt-irrefl, mul-le-mul, pow-suc, pow-le-pow-left}
 use native.Mathlib.Numerals.{add-one}
 use native.Mathlib.Omega.{arith}
 use lib.Dec.{T, leb, leb→le, nleb→lt, lit≤, lit<}
 use lib.Ieee.{size, nearest}
 use lib.Ieee.Digits.{size-lt}
 use Rattle.ieee.specs.Sqrt.{rootTo, root, halfway, nearestRoot}
-use Rattle.ieee.proofs.Laws.{compare-lt, compare-gt}
+use Rattle.ieee.proofs.Naturals.{le-or-lt, compare-lt, compare-gt}
 
 -- r is the whole part of n's root
 abbrev pub IsRoot : ℕ → ℕ → Type 0
@@ -27,13 +27,6 @@ four m i = rw (add-one i, pow-suc 4 i) (omega arith)
 
 two : (i : ℕ) → 2 ^ (i + 1) ≡ 2 * 2 ^ i
 two i = rw (add-one i, pow-suc 2 i) (omega arith)
-
-pub le-or-lt : (a b : ℕ) → (a ≤ b) ⊎ (b < a)
-le-or-lt a b = go (leb a b) (leb→le a b) (nleb→lt a b)
-  where
-    go : (t : Bool) → (T t → a ≤ b) → (T (not t) → b < a) → (a ≤ b) ⊎ (b < a)
-    go true h k = inl (h tt)
-    go false h k = inr (k tt)
 
 -- ---- `root`
 digit : (d n : ℕ) → n < 4 ^ suc d → n / 4 < 4 ^ d

@@ -2,22 +2,24 @@
 -- with q * 2 ^ k + 2 ^ k / 2 (`Cut`, `rounds`). No other float is (`only`).
 use mathlib.Core.Path.{_≡_, refl, sym, ap, _∙_, subst}
 use mathlib.Core.Logic.{_⊎_, inl, inr}
-use mathlib.Core.Bool.{Bool, true, false, not, cond, Bool·beq, false≢true}
-use Prim.Native.Nat.{ℕ, zero, suc, _+_, _-_, _*_, _/_, _%_, _^_, _≤_, _<_, Ordering, Ordering·lt, Ordering·eq, Ordering·gt}
-use native.Mathlib.Nat.{le-refl, le-trans, le-of-eq, le-of-lt, le-of-suc-le-suc, le-antisymm, lt-of-lt-of-le, lt-of-le-of-lt, lt-of-not-le, not-le-of-lt, lt-irrefl, mul-assoc, mul-comm, mul-left-comm, mul-le-mul, mul-le-mul-left, mul-le-mul-right, le-of-mul-le-mul-right, mul-pos, zero-mul, eq-of-mul-eq-mul-right, eq-zero-or-pos, pow-succ'}
+use mathlib.Core.Bool.{Bool, true, false, cond, Bool·beq, false≢true}
+use Prim.Native.Nat.{ℕ, zero, suc, _+_, _-_, _*_, _%_, _^_, _≤_, _<_, Ordering, Ordering·lt, Ordering·eq, Ordering·gt}
+use native.Mathlib.Nat.{le-trans, le-of-eq, le-of-lt, le-of-suc-le-suc, le-antisymm, lt-of-lt-of-le, lt-of-le-of-lt, lt-of-not-le, not-le-of-lt, lt-irrefl, mul-assoc, mul-le-mul, mul-le-mul-left, mul-le-mul-right, le-of-mul-le-mul-right, mul-pos, zero-mul, eq-of-mul-eq-mul-right, eq-zero-or-pos, pow-succ'}
 use native.Mathlib.Omega.{arith}
-use lib.Dec.{T, ltb, ltb→lt, nltb→le, lit<, lit≤}
-use lib.IntN.{ℤ}
-use lib.Pow.{pow-add, pow-pos, pow-mono, pow-lt}
-use lib.Ieee.{Float, nan, inf, fin, Format, binary32, binary64, prec, emax, low, hid, ones, top, nearest, odd, units, fits, toBits}
-use lib.Ieee.Fits.{nearest-le, odd-fits, inf-fits}
+use lib.Dec.{T, lit<}
+use lib.Pow.{pow-pos, pow-mono}
+use lib.Ieee.{Float, nan, inf, fin, Format, binary32, binary64, prec, emax, low, hid, top, nearest, odd, units, fits, toBits}
+use lib.Ieee.Fits.{nearest-le}
 use lib.Ieee.Nearest.{nearest-ge}
 use lib.Ieee.Exact.{HasValue, units-val}
-use Rattle.ieee.specs.Order.{negative, finite}
-use Rattle.ieee.specs.Rounding.{Exact, AtLeast, AtMost, Near, AsNear, Overflows, RoundTiesToEven}
-use Rattle.ieee.proofs.Laws.{units-over, value-bits, Lead, edge}
-use Rattle.ieee.proofs.Numbers.{Proper, trichotomy, least-down, most-up, meet, least?, not-least, not-most, least-scale, least-unscale}
-use Rattle.ieee.proofs.Grid.{Grid, zero-on-grid, next-up, Placed, on-grid, same-value, value-unique}
+use Rattle.ieee.specs.Order.{finite}
+use Rattle.ieee.specs.Rounding.{Exact, AtLeast, AtMost, AsNear, Overflows, RoundTiesToEven}
+use Rattle.ieee.proofs.Naturals.{trichotomy}
+use Rattle.ieee.proofs.Values.{value-finite, value-negative, value-unique, finite-fin}
+use Rattle.ieee.proofs.Units.{Lead, units-fits, units-over, units-small, units-negative}
+use Rattle.ieee.proofs.Patterns.{value-bits, edge}
+use Rattle.ieee.proofs.ExactSizes.{Proper, least-down, most-up, meet, least?, not-least, not-most, least-scale, least-unscale}
+use Rattle.ieee.proofs.Grid.{Grid, zero-on-grid, next-up, Placed, on-grid, same-value}
 use Rattle.ieee.proofs.Distance.{Middle, as-near, middle-same, middle-other}
 
 -- ---- where X is cut
@@ -32,55 +34,6 @@ pub record Cut (f : Format) (X : Exact) (q k : ℕ) (o : Ordering) : Type 0 wher
   pub lo : AtLeast X (q * 2 ^ k) (2 ^ low f)
   pub hi : AtLeast X (suc q * 2 ^ k) (2 ^ low f) → ⊥
   pub half : Half o X ((2 * q + 1) * 2 ^ k) (2 ^ low f * 2)
-
--- ---- `units`: the sign, the format, the infinity
-odd-negative : (d : ℕ) (s : Bool) (q k l : ℕ) → negative (odd d s q k l) ≡ s
-unfolding odd negative
-odd-negative d s zero k l = refl
-odd-negative d s (suc q) k l = refl
-
-inf-negative : (s : Bool) → negative (inf s) ≡ s
-unfolding negative
-inf-negative s = refl
-
-cond-negative : (b s : Bool) (x y : Float) → negative x ≡ s → negative y ≡ s → negative (cond b x y) ≡ s
-cond-negative true s x y h k = h
-cond-negative false s x y h k = k
-
-pub units-negative : (f : Format) (s : Bool) (q k : ℕ) → negative (units f s q k) ≡ s
-unfolding units
-units-negative f s q k = cond-negative (ltb (q * 2 ^ k) (2 ^ (low f + suc (emax f)))) s _ _ (odd-negative (suc (prec f)) s q k (low f)) (inf-negative s)
-
-pub units-fits : (f : Format) (s : Bool) (q k : ℕ) → q ≤ 2 ^ prec f → T (fits f (units f s q k))
-unfolding units
-units-fits f s q k a = go (ltb (q * 2 ^ k) (2 ^ (low f + suc (emax f)))) (ltb→lt (q * 2 ^ k) (2 ^ (low f + suc (emax f))))
-  where
-    go : (b : Bool) → (T b → q * 2 ^ k < 2 ^ (low f + suc (emax f))) → T (fits f (cond b (odd (suc (prec f)) s q k (low f)) (inf s)))
-    go true h = odd-fits f (suc (prec f)) s q k (lt-of-le-of-lt a (pow-lt (le-refl (suc (prec f))))) a (h tt)
-    go false h = inf-fits f s
-
-pub value-finite : (x : Float) (s : Bool) (a c : ℕ) → HasValue x s a c → T (finite x)
-unfolding finite
-value-finite nan s a c v = v
-value-finite (inf t) s a c v = v
-value-finite (fin t m e) s a c v = tt
-
-pub value-negative : (x : Float) (s : Bool) (a c : ℕ) → HasValue x s a c → negative x ≡ s
-unfolding negative
-value-negative nan s a c v = absurd v
-value-negative (inf t) s a c v = absurd v
-value-negative (fin t m e) s a c v = v .0
-
-pub finite-fin : (s : Bool) (m : ℕ) (e : ℤ) → T (finite (fin s m e))
-unfolding finite
-finite-fin s m e = tt
-
-not-inf : (x : Float) (s : Bool) → x ≡ inf s → T (finite x) → ⊥
-unfolding finite
-not-inf x s e F = subst (λ (y : Float). T (finite y)) e F
-
-units-small : (f : Format) (s : Bool) (q k : ℕ) → T (finite (units f s q k)) → q * 2 ^ k < 2 ^ (low f + suc (emax f))
-units-small f s q k F = lt-of-not-le (λ (h : 2 ^ (low f + suc (emax f)) ≤ q * 2 ^ k). not-inf (units f s q k) s (units-over f s q k h) F)
 
 -- ---- the least size that overflows, in halves of a unit: 2 ^ (prec + 1) - 1 of 2 ^ edge
 abbrev last : Format → ℕ

@@ -1,30 +1,27 @@
 -- `sqrt` is IEEE 754-2019's squareRoot (section 5.4.1): the exact root of a number above zero is rounded by roundTiesToEven (`sqrt-rounds`), and nothing else is what that asks (`sqrt-only`).
 -- The root of a number of the format is finite (`sqrt-finite`). The root of -0 is -0, and below zero there is none.
 use mathlib.Core.Path.{_≡_, refl, sym, ap, _∙_, subst}
-use mathlib.Core.Logic.{_⊎_, inl, inr}
+use mathlib.Core.Logic.{inl, inr}
 use mathlib.Core.Bool.{Bool, true, false}
-use Prim.Native.Nat.{ℕ, zero, suc, _+_, _-_, _*_, _/_, _%_, _^_, _≤_, _<_, compare, Ordering, Ordering·lt, Ordering·eq, Ordering·gt}
-use native.Mathlib.Nat.{le-trans, le-of-eq, le-of-lt, le-of-suc-le-suc, lt-of-lt-of-le, lt-of-le-of-lt, lt-irrefl, not-le-of-lt, mul-assoc, mul-comm, mul-left-comm, mul-pos, mul-le-mul, mul-le-mul-right, mul-le-mul-left, lt-of-mul-lt-mul-right, le-of-mul-le-mul-right, div-lt-iff-lt-mul, le-div-iff-mul-le, eq-zero-or-pos, two-mul, pow-succ'}
+use Prim.Native.Nat.{ℕ, suc, _+_, _-_, _*_, _/_, _^_, _≤_, _<_, compare}
+use native.Mathlib.Nat.{le-trans, le-of-eq, le-of-suc-le-suc, lt-of-lt-of-le, lt-of-le-of-lt, not-le-of-lt, mul-assoc, mul-comm, mul-left-comm, mul-pos, mul-le-mul, mul-le-mul-right, mul-le-mul-left, lt-of-mul-lt-mul-right, le-of-mul-le-mul-right, div-lt-iff-lt-mul, le-div-iff-mul-le, pow-succ'}
 use native.Mathlib.Omega.{arith}
 use lib.Dec.{T, lit≤}
 use lib.IntN.{ℤ, pos}
 use lib.Pow.{pow-add, pow-pos, pow-mono}
-use lib.Ieee.{Float, nan, inf, fin, Format, binary32, binary64, prec, emax, low, hid, up, down, size, units, fits}
+use lib.Ieee.{Float, nan, inf, fin, Format, binary32, binary64, prec, emax, low, hid, up, down, size, fits}
 use lib.Ieee.Fits.{down-pos}
-use lib.Ieee.Digits.{size-reaches, size-lt}
+use lib.Ieee.Digits.{size-lt}
 use Rattle.ieee.specs.Order.{finite}
-use Rattle.ieee.specs.Sqrt.{root, halfway, roundRoot, sqrt}
-use Rattle.ieee.specs.Rounding.{rootOf, AtLeast, AtMost, Overflows, RoundTiesToEven}
-use Rattle.ieee.proofs.Laws.{compare-lt, compare-eq, compare-gt, Lead}
-use Rattle.ieee.proofs.Numbers.{trichotomy, square-lt, square-le}
+use Rattle.ieee.specs.Sqrt.{root, roundRoot, sqrt}
+use Rattle.ieee.specs.Rounding.{rootOf, RoundTiesToEven}
+use Rattle.ieee.proofs.Naturals.{trichotomy, square-lt, pow-double, compare-lt, compare-eq, compare-gt}
+use Rattle.ieee.proofs.Units.{Lead, leads}
 use Rattle.ieee.proofs.Roots.{root-is}
-use Rattle.ieee.proofs.Grid.{in-range}
+use Rattle.ieee.proofs.Grid.{value-small}
 use Rattle.ieee.proofs.RoundsToEven.{Half, Cut, rounds, only}
 
 -- ---- how `roundRoot` cuts the root of num / den
-twice : (k : ℕ) → 2 ^ (2 * k) ≡ 2 ^ k * 2 ^ k
-twice k = ap (λ (x : ℕ). 2 ^ x) (two-mul k) ∙ pow-add 2 k k
-
 square-of : (a b d : ℕ) → a * b * (a * b) * d ≡ a * a * (d * (b * b))
 square-of a b d = simp (mul-assoc, mul-comm, mul-left-comm)
 
@@ -45,10 +42,10 @@ module _ (f : Format) (num den : ℕ) (D : 0 < den) where
   U = mul-pos D (pow-pos (2 * k))
 
   squares : (x : ℕ) → x * 2 ^ k * (x * 2 ^ k) * den ≡ x * x * u
-  squares x = square-of x (2 ^ k) den ∙ ap (λ (y : ℕ). x * x * (den * y)) (sym (twice k))
+  squares x = square-of x (2 ^ k) den ∙ ap (λ (y : ℕ). x * x * (den * y)) (sym (pow-double k))
 
   n-is : num * (2 ^ low f * 2 ^ low f) ≡ n
-  n-is = ap (λ (y : ℕ). num * y) (sym (twice (low f)))
+  n-is = ap (λ (y : ℕ). num * y) (sym (pow-double (low f)))
 
   -- q² ≤ n / u < (q + 1)²
   lower : q * q * u ≤ n
@@ -67,24 +64,12 @@ module _ (f : Format) (num den : ℕ) (D : 0 < den) where
       cover : (z p : ℕ) → z ≤ p + (z - p)
       cover z p = omega arith
 
-  leads : Lead f q k
-  leads = go (eq-zero-or-pos k)
-    where
-      half : (f : Format) (q : ℕ) → hid f ≤ q → 2 ^ prec f ≤ 2 * q
-      half binary32 q h = omega arith
-      half binary64 q h = omega arith
-
-      pred : (f : Format) (z : ℕ) → 0 < z - prec f → prec f - 1 + (z - prec f) < z
-      pred binary32 z h = omega arith
-      pred binary64 z h = omega arith
-
-      go : (k ≡ 0) ⊎ (0 < k) → Lead f q k
-      go (inl z) = inl z
-      go (inr p) =
-          let w = root (n / den) in
-          let a : hid f * 2 ^ k ≤ w = le-trans (le-of-eq (sym (pow-add 2 (prec f - 1) k))) (size-reaches w (prec f - 1 + k) (pred f (size w) p)) in
-          let b : hid f * 2 ^ k * (hid f * 2 ^ k) * den ≤ n = le-div-iff-mul-le D .0 (le-trans (mul-le-mul a a) (root-is (n / den) .0)) in
-          inr (half f q (le-of-suc-le-suc (square-lt (hid f) (suc q) (lt-of-le-of-lt (le-div-iff-mul-le U .1 (le-trans (le-of-eq (sym (squares (hid f)))) b)) (root-is (n / u) .1)))))
+  q-leads : Lead f q k
+  q-leads =
+      leads f (root (n / den)) q
+      (λ a.
+      let b : hid f * 2 ^ k * (hid f * 2 ^ k) * den ≤ n = le-div-iff-mul-le D .0 (le-trans (mul-le-mul a a) (root-is (n / den) .0)) in
+      le-of-suc-le-suc (square-lt (hid f) (suc q) (lt-of-le-of-lt (le-div-iff-mul-le U .1 (le-trans (le-of-eq (sym (squares (hid f)))) b)) (root-is (n / u) .1))))
 
   -- the root against q + 1 / 2
   abbrev half-square : ℕ
@@ -106,7 +91,7 @@ module _ (f : Format) (num den : ℕ) (D : 0 < den) where
   root-cut : Cut f (rootOf num den) q k (compare (4 * n) half-square)
   root-cut = record {
     few = few;
-    lead = leads;
+    lead = q-leads;
     lo = le-trans (le-of-eq (squares q)) (le-trans lower (le-of-eq (sym n-is)));
     hi = λ h. not-le-of-lt upper (le-trans (le-of-eq (sym (squares (suc q)))) (le-trans h (le-of-eq n-is)));
     half = halves;
@@ -134,7 +119,7 @@ module _ (f : Format) (m : ℕ) (e : ℤ) where
   pub sqrt-finite : T (fits f (fin false (suc m) e)) → T (finite (sqrt f (fin false (suc m) e)))
   sqrt-finite F =
       sqrt-rounds .under
-      (λ h. no (2 ^ emax f) (2 ^ prec f) (2 ^ suc (prec f) - 1) (suc m * up e) (down e) (two f) (pow-pos (prec f)) (more f) h (subst (λ (x : ℕ). suc m * up e < x * down e) (pow-succ' 2 (emax f)) (in-range f false (suc m) e F)))
+      (λ h. no (2 ^ emax f) (2 ^ prec f) (2 ^ suc (prec f) - 1) (suc m * up e) (down e) (two f) (pow-pos (prec f)) (more f) h (subst (λ (x : ℕ). suc m * up e < x * down e) (pow-succ' 2 (emax f)) (value-small f (fin false (suc m) e) false (suc m * up e) (down e) (down-pos e) F (refl, refl))))
     where
       two : (f : Format) → 2 ≤ 2 ^ emax f
       two binary32 = lit≤ tt

@@ -2,25 +2,22 @@
 -- With sizes at one denominator and none above B, each float has a rank, a number: `totalLess` compares the ranks (`less-is`).
 use mathlib.Core.Path.{_≡_, refl, sym, ap, _∙_, subst}
 use mathlib.Core.Logic.{_⊎_, inl, inr}
-use mathlib.Core.Bool.{Bool, true, false, not, cond, _&&_, _||_, Bool·beq, true≢false, false≢true}
-use Prim.Native.Nat.{ℕ, zero, suc, _+_, _-_, _*_, _^_, _≤_, _<_}
-use native.Mathlib.Nat.{mul-assoc, mul-comm, mul-left-comm, mul-right-comm, mul-pos, eq-of-mul-eq-mul-right}
+use mathlib.Core.Bool.{Bool, true, false, not, _&&_, _||_}
+use Prim.Native.Nat.{ℕ, _+_, _-_, _*_, _^_, _≤_, _<_}
+use native.Mathlib.Nat.{mul-assoc, mul-comm, mul-left-comm, mul-pos}
 use native.Mathlib.Omega.{arith}
 use lib.Dec.{T, ltb, eqb}
-use lib.IntN.{ℤ, pos}
-use lib.Pow.{pow-pos}
+use lib.IntN.{pos}
 use lib.Ieee.{Float, nan, inf, fin, Format, low, up, down, below, level, lt, eq, isNan, fits}
-use lib.Ieee.Fits.{down-pos}
 use lib.Ieee.Positive.{num, den, den-pos}
 use lib.Ieee.Exact.{HasValue}
-use borrow.Author.Tests.{lt-ltb, le-ltb, ltb-true, ltb-false, eq-eqb, ne-eqb}
-use Rattle.ieee.specs.Order.{negative, finite, totalLess}
-use Rattle.ieee.proofs.Numbers.{trichotomy}
-use Rattle.ieee.proofs.Roots.{le-or-lt}
-use Rattle.ieee.proofs.Wraps.{above-plain, below-plain}
+use borrow.Author.Tests.{lt-ltb, le-ltb, ltb-true, eq-eqb}
+use Rattle.ieee.specs.Order.{finite, totalLess}
+use Rattle.ieee.proofs.Naturals.{le-or-lt, trichotomy}
+use Rattle.ieee.proofs.Tests.{left-plain, right-plain}
 use Rattle.ieee.proofs.Comparing.{lt-is, eq-is}
-use Rattle.ieee.proofs.Grid.{Placed, on-grid, same-value, rescale}
-use Rattle.ieee.proofs.RoundsToEven.{finite-fin}
+use Rattle.ieee.proofs.Values.{finite-fin, value-cross, rescale}
+use Rattle.ieee.proofs.Grid.{on-grid, same-value}
 
 -- ---- ranks
 abbrev rank : ℕ → Bool → ℕ → ℕ
@@ -109,7 +106,7 @@ module _ (x y z : Float) where
   rank-z = ranked D B (den x * den y) z (turn (den x) (den y) (den z)) (omega arith)
     where
       turn : (a b c : ℕ) → c * (a * b) ≡ a * (b * c)
-      turn a b c = simp (mul-assoc, mul-comm, mul-left-comm)
+      turn a b c = simp (mul-comm, mul-left-comm)
 
   xy-is : totalLess x y ≡ ltb (rank-x .0) (rank-y .0)
   xy-is = less-is D B D-pos x y (rank-x .0) (rank-y .0) (rank-x .1) (rank-y .1)
@@ -133,15 +130,8 @@ irreflexive x = less-is (D x x x) (B x x x) (D-pos x x x) x x (rank-x x x x .0) 
 same-size : (f : Format) (x y : Float) (s : Bool) (a D : ℕ) → 0 < D → T (fits f x) → T (fits f y) → T (finite x) → HasValue x s a D → HasValue y s a D → x ≡ y
 same-size f x y s a D P F G N v w =
     let p = on-grid f x F N in
-    let u = cross x (p .sign) s (p .size) a (2 ^ low f) D (p .value) v in
+    let u = value-cross x (p .sign) s (p .size) a (2 ^ low f) D (p .value) v in
     same-value f x y s (p .size) F G (rescale x s a D (p .size) (2 ^ low f) P u v) (rescale y s a D (p .size) (2 ^ low f) P u w)
-  where
-    -- two fractions for one size
-    cross : (x : Float) (t s : Bool) (b a c d : ℕ) → HasValue x t b c → HasValue x s a d → b * d ≡ a * c
-    cross nan t s b a c d v w = absurd v
-    cross (inf u) t s b a c d v w = absurd v
-    cross (fin u m e) t s b a c d v w = eq-of-mul-eq-mul-right (down e) (down-pos e) (b * d) (a * c)
-        (mul-right-comm b d (down e) ∙ ap (λ (z : ℕ). z * d) (sym (v .1)) ∙ mul-right-comm (m * up e) c d ∙ ap (λ (z : ℕ). z * c) (w .1) ∙ mul-right-comm a (down e) c)
 
 rank-signs : (B : ℕ) (s t : Bool) (a b : ℕ) → a ≤ B → b ≤ B → rank B s a ≡ rank B t b → (s ≡ t) × (a ≡ b)
 rank-signs B true true a b h k e = (refl, omega arith)
@@ -207,7 +197,7 @@ module _ (x y : Float) where
   -- x < y
   pub as-less : lt x y ≡ true → totalLess x y ≡ true
   unfolding totalLess
-  as-less h = rw (above-plain x y h, below-plain y x h, h)
+  as-less h = rw (left-plain x y h, right-plain x y h, h)
 
   -- two numbers that are not equal: as `<` has it
   pub as-unequal : isNan x ≡ false → isNan y ≡ false → eq x y ≡ false → totalLess x y ≡ lt x y

@@ -1,44 +1,23 @@
 -- `floor` is IEEE 754-2019's roundToIntegralTowardNegative (section 5.9): of a finite number of the format it is the greatest whole number that is at most that, with the same sign
 -- (`floor-rounds`). Zeros, infinities and NaN stay.
 use mathlib.Core.Path.{_≡_, refl, sym, ap, _∙_, subst}
-use mathlib.Core.Bool.{Bool, true, false, cond, _&&_}
-use Prim.Native.Nat.{ℕ, zero, suc, _+_, _-_, _*_, _/_, _%_, _^_, _≤_, _<_}
-use native.Mathlib.Nat.{le-trans, le-of-eq, le-of-lt, le-of-suc-le-suc, lt-of-lt-of-le, lt-of-le-of-lt, mul-one, mul-pos, div-le-self, div-one, div-mul-le-self, div-lt-iff-lt-mul, div-add-mod', mod-lt, lt-of-mul-lt-mul-right, mul-le-mul-right, mul-le-mul-left, le-of-mul-le-mul-right, suc-mul, add-zero, zero-mul}
+use mathlib.Core.Bool.{Bool, true, false}
+use Prim.Native.Nat.{ℕ, suc, _+_, _*_, _^_, _≤_, _<_}
+use native.Mathlib.Nat.{le-trans, le-of-eq, le-of-lt, le-of-suc-le-suc, lt-of-lt-of-le, lt-of-le-of-lt, mul-one, lt-of-mul-lt-mul-right, mul-le-mul-right, zero-mul}
 use native.Mathlib.Omega.{arith}
-use lib.Dec.{T, leb, eqb, le→leb, leb→le, eqb→eq}
+use lib.Dec.{T, eqb, le→leb, leb→le, eqb→eq}
 use lib.IntN.{ℤ, pos, negsuc}
 use lib.Pow.{pow-pos}
-use lib.Ieee.{Float, nan, inf, fin, Format, binary32, binary64, up, down, round, le, fits}
-use lib.Ieee.Fits.{down-pos, and-l, and-r, and-i, eq→eqb}
+use lib.Ieee.{Float, nan, inf, fin, Format, binary32, binary64, up, down, round, fits}
+use lib.Ieee.Fits.{down-pos, round-fits, and-l, and-r, and-i, eq→eqb}
 use lib.Ieee.Back.{round-whole}
 use lib.Ieee.Exact.{HasValue}
-use Rattle.ieee.specs.Order.{negative}
-use Rattle.ieee.specs.Floor.{floor, Whole, RoundTowardNegative}
+use Rattle.ieee.specs.Floor.{cut, floor, RoundTowardNegative}
+use Rattle.ieee.proofs.Cuts.{Between, cut-between, cut-le}
 use Rattle.ieee.proofs.Comparing.{upTo, le-is}
-use Rattle.ieee.proofs.Grid.{few, rescale}
+use Rattle.ieee.proofs.Values.{value-negative, rescale}
+use Rattle.ieee.proofs.Grid.{few}
 use Rattle.ieee.proofs.ConvertFormat.{exact}
-use Rattle.ieee.proofs.RoundsToEven.{value-negative}
-
--- ---- num / den cut to a whole number: downward, or upward where it is negative
-abbrev cut : Bool → ℕ → ℕ → ℕ
-cut s num den = (num + cond s (den - 1) 0) / den
-
--- n is num / den, cut so
-abbrev Between : Bool → ℕ → ℕ → ℕ → Type 0
-Between false num den n = (n * den ≤ num) × (num < suc n * den)
-Between true num den n = (num ≤ n * den) × (n * den < num + den)
-
-cut-between : (s : Bool) (num den : ℕ) → 0 < den → Between s num den (cut s num den)
-cut-between false num den D = subst (λ (a : ℕ). (a / den * den ≤ num) × (num < suc (a / den) * den)) (sym (add-zero num)) (div-mul-le-self num den, div-lt-iff-lt-mul D .0 (next (num / den)))
-  where
-    next : (q : ℕ) → q < suc q
-    next q = omega arith
-cut-between true num den D =
-    let a = num + (den - 1) in
-    go (a / den * den) (a % den) den num D (div-add-mod' a den) (mod-lt a D)
-  where
-    go : (x r d n : ℕ) → 0 < d → x + r ≡ n + (d - 1) → r < d → (n ≤ x) × (x < n + d)
-    go x r d n D e h = (omega arith, omega arith)
 
 -- ---- the greatest whole number that is at most ±num / den
 module _ (num den n : ℕ) (D : 0 < den) where
@@ -77,23 +56,8 @@ module _ (f : Format) (s : Bool) where
       plain : (s : Bool) (w : ℕ) → cut s w 1 ≡ w
       plain true w = omega arith
       plain false w = omega arith
-  floor-value m (negsuc k) F = round-whole f s (cut s (m * 1) (2 ^ suc k)) (le-trans (short s m (2 ^ suc k) (pow-pos (suc k))) (le-of-lt (few f s m (negsuc k) F)))
-    where
-      short : (s : Bool) (m d : ℕ) → 0 < d → cut s (m * 1) d ≤ m
-      short s m d D = go s (cut s (m * 1) d) (cut-between s (m * 1) d D)
-        where
-          wide : m ≤ m * d
-          wide = le-trans (le-of-eq (sym (mul-one m))) (mul-le-mul-left m D)
-
-          down-to : (n w : ℕ) → n * d ≤ m * 1 → m ≤ w → n * d ≤ w
-          down-to n w h l = omega arith
-
-          up-to : (n w : ℕ) → n * d < m * 1 + d → m ≤ w → n * d < w + d
-          up-to n w h l = omega arith
-
-          go : (s : Bool) (n : ℕ) → Between s (m * 1) d n → n ≤ m
-          go false n b = le-of-mul-le-mul-right (down-to n (m * d) (b .0) wide) D
-          go true n b = le-of-suc-le-suc (lt-of-mul-lt-mul-right d (lt-of-lt-of-le (up-to n (m * d) (b .1) wide) (le-of-eq (sym (suc-mul m d)))))
+  floor-value m (negsuc k) F =
+      round-whole f s (cut s (m * 1) (2 ^ suc k)) (le-trans (cut-le s (m * 1) (2 ^ suc k) (pow-pos (suc k))) (le-trans (le-of-eq (mul-one m)) (le-of-lt (few f s m (negsuc k) F))))
 
   module _ (m : ℕ) (e : ℤ) (F : T (fits f (fin s m e))) where
     abbrev x : Float
@@ -106,18 +70,19 @@ module _ (f : Format) (s : Bool) where
     widened : (y : Float) (t : Bool) (k : ℕ) → HasValue y t k 1 → HasValue y t (k * down e) (down e)
     widened y t k v = rescale y t k 1 (k * down e) (down e) (pow-pos 0) (mul-one (k * down e)) v
 
-    pub floor-rounds : RoundTowardNegative x (floor f x)
+    pub floor-rounds : RoundTowardNegative f x (floor f x)
     unfolding floor
     floor-rounds =
         let r = round f s n 1 in
         let v : HasValue r s n 1 = floor-value m e F in
         let b = cut-between s (m * up e) (down e) (down-pos e) in
         record {
+          held = round-fits f s n 1;
           whole = (s, n, v);
           below = subst T (sym (le-is r x s s (n * down e) (m * up e) (down e) (down-pos e) (widened r s n v) (refl, refl))) (at-most (m * up e) (down e) n (down-pos e) s b);
           greatest = λ y w h.
-            subst T (sym (le-is y r (w .0) s (w .1 * down e) (n * down e) (down e) (down-pos e) (widened y (w .0) (w .1) (w .2)) (widened r s n v)))
-            (above-none (m * up e) (down e) n (down-pos e) s (w .0) (w .1) b (subst T (le-is y x (w .0) s (w .1 * down e) (m * up e) (down e) (down-pos e) (widened y (w .0) (w .1) (w .2)) (refl, refl)) h));
+              subst T (sym (le-is y r (w .0) s (w .1 * down e) (n * down e) (down e) (down-pos e) (widened y (w .0) (w .1) (w .2)) (widened r s n v)))
+              (above-none (m * up e) (down e) n (down-pos e) s (w .0) (w .1) b (subst T (le-is y x (w .0) s (w .1 * down e) (m * up e) (down e) (down-pos e) (widened y (w .0) (w .1) (w .2)) (refl, refl)) h));
           sign = value-negative r s n 1 v ∙ sym (value-negative x s (m * up e) (down e) (refl, refl));
         }
 

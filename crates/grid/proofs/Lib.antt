@@ -1,0 +1,5 @@
+pub mod Steps
+pub mod Counts
+pub mod Places
+pub mod Memory
+pub mod Known

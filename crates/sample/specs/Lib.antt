@@ -1,0 +1,4 @@
+pub mod Figures
+pub mod Columns
+pub mod Bands
+pub mod Laid
