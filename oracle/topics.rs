@@ -8,5 +8,6 @@ mod grid;
 mod known;
 mod patterns;
 mod sample;
+mod window;
 
-pub const ALL: &[Topic] = &[known::TOPIC, floats::TOPIC, grid::TOPIC, sample::TOPIC, patterns::TOPIC];
+pub const ALL: &[Topic] = &[known::TOPIC, floats::TOPIC, window::TOPIC, grid::TOPIC, sample::TOPIC, patterns::TOPIC];

@@ -1,0 +1,48 @@
+// The calls that the capture program makes from C. A lent slice is two arguments there, a pointer and the number of elements.
+ghost use mathlib.Core.Path.{_≡_};
+ghost use Rattle.grid.specs.Needed.{sizingOf};
+ghost use Rattle.c_door.specs.Codes.{codeOf};
+ghost use Rattle.c_door.specs.Noise.{noiseOf};
+
+// M for an image of w by h, or 4,294,967,296 plus the number of a refusal. The noise call needs 3M i32 and 2M + 2 f32.
+#[no_mangle]
+pub extern "C" fn vuzgari_noise_windows(w: usize, h: usize) -> u64
+    ensures { λ r. ⌜ r ≡ codeOf (sizingOf w h) ⌝ }
+{
+    let size = grid::sizing(w, h);
+    match size {
+        grid::Size::Windows(m) => m as u64,
+        grid::Size::SideAbove => 4_294_967_297,
+        grid::Size::SideBelow => 4_294_967_299,
+    }
+}
+
+// The noise call: its number, and after 0, 5, 6 or 7 the answer in the first 40 bytes of `out`.
+#[no_mangle]
+pub extern "C" fn vuzgari_noise(
+    pixels: &[u8],
+    w: usize,
+    h: usize,
+    ints: &mut [i32],
+    floats: &mut [f32],
+    out: &mut [u8],
+) -> u32
+    ensures { λ r. ⌜ (r ≡ noiseOf (now (pixels .entry)) w h (now (ints .entry)) (now (floats .entry)) (now (out .entry)) .number)
+        × (now (ints .exit) ≡ noiseOf (now (pixels .entry)) w h (now (ints .entry)) (now (floats .entry)) (now (out .entry)) .ints)
+        × (now (floats .exit) ≡ noiseOf (now (pixels .entry)) w h (now (ints .entry)) (now (floats .entry)) (now (out .entry)) .floats)
+        × (now (out .exit) ≡ noiseOf (now (pixels .entry)) w h (now (ints .entry)) (now (floats .entry)) (now (out .entry)) .bytes) ⌝ }
+{
+    let j = noise::judge(pixels.len(), w, h, ints.len(), floats.len());
+    let cause = j.number;
+    let m = j.windows;
+    if cause != 0 {
+        return cause;
+    }
+    if out.len() < 40 {
+        return 4;
+    }
+    let a = noise::measure(pixels, w, h, ints, floats, m);
+    let number = a.number;
+    answer::put(out, a);
+    number
+}

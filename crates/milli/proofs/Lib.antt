@@ -1,0 +1,2 @@
+-- Laws on thousandths.
+pub mod Cutting

@@ -1,0 +1,3 @@
+-- Thousandths of a float.
+pub mod Thousandths
+pub mod Cases

@@ -1,0 +1,4 @@
+pub mod Causes
+pub mod Deciding
+pub mod Passing
+pub mod Leaving

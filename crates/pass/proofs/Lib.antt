@@ -1,0 +1,4 @@
+pub mod Bounds
+pub mod Beyonds
+pub mod Bands
+pub mod Collected

@@ -1,0 +1,57 @@
+-- One pass, from the figures of its windows alone: document 01, "Bands", "Rounds" and "Joining".
+use mathlib.Core.List.{List, [], _∷_}
+use Prim.Native.Nat.{ℕ, _+_, _*_, _^_, _≤_, _<_}
+use lib.ListN.{length}
+use lib.Ieee.{Float}
+use Rattle.window.specs.declared.WindowStats.{WindowStats}
+use Rattle.sample.specs.Bands.{sampleOf}
+use Rattle.sample.specs.Laid.{gatesOf, squaresOf}
+use Rattle.sample.specs.declared.Sample.{Sample}
+use Rattle.joining.specs.Joining.{noise, numberOf, figureOf}
+use Rattle.joining.specs.declared.Noise.{Noise}
+use Rattle.pass.specs.declared.Pass.{Pass}
+
+-- how many windows the bands keep
+abbrev pub keptBy : Sample → ℕ
+keptBy s = s .b0 + s .b1 + s .b2 + s .b3
+
+-- where each band starts among them, and where the last one ends
+abbrev pub startsBy : Sample → List ℕ
+startsBy s = 0 ∷ s .b0 ∷ (s .b0 + s .b1) ∷ (s .b0 + s .b1 + s .b2) ∷ keptBy s ∷ []
+
+-- the noise of the bands
+abbrev pub noiseIn : List WindowStats → Noise
+noiseIn fs = noise (gatesOf fs) (squaresOf fs) (startsBy (sampleOf fs))
+
+-- counts and noise as one record; sigma is zero unless the number is 0
+abbrev pub packed : Sample → Noise → Pass
+packed s n =
+    record {
+      number = numberOf (n .sigma);
+      sigma = figureOf (n .sigma);
+      rounds = n .rounds;
+      b0 = s .b0;
+      b1 = s .b1;
+      b2 = s .b2;
+      b3 = s .b3;
+      rail = s .rail;
+    }
+
+-- what a pass finds
+unfoldable pub passOf : List WindowStats → Pass
+passOf fs = packed (sampleOf fs) (noiseIn fs)
+
+-- ---- what the code's steps ask for
+
+-- numbers of 32 bits
+pub record Small (s : Sample) (n : Noise) : Type 0 where
+  pub b0 : s .b0 < 2 ^ 32
+  pub b1 : s .b1 < 2 ^ 32
+  pub b2 : s .b2 < 2 ^ 32
+  pub b3 : s .b3 < 2 ^ 32
+  pub rail : s .rail < 2 ^ 32
+  pub rounds : n .rounds < 2 ^ 32
+
+-- the gates, one spare place and the squared outputs
+abbrev pub Room : Sample → List Float → Type 0
+Room s floats = 2 * keptBy s + 1 ≤ length floats
