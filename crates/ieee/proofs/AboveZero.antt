@@ -1,4 +1,4 @@
--- The floats that are left to sqrt once its tests have taken out NaN, zeros and what is below zero: those above zero (`Above`). And what it gives for the others, and for the infinity.
+-- The floats that are left to sqrt once its tests have taken out NaN, zeros and what is below zero: those above zero (`above`). And what it gives for the others, and for the infinity.
 use mathlib.Core.Path.{_≡_, refl, sym, ap, _∙_, subst}
 use mathlib.Core.Bool.{Bool, true, false, not, _&&_, true≢false, false≢true}
 use mathlib.Core.Logic.{_⊎_, inl, inr}

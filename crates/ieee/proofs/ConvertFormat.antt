@@ -2,21 +2,22 @@
 -- So the value of the format next to it, with its sign, and an infinity from 2 ^ emax * (2 - 2 ^ -prec) on; a value that the format holds stays (`convert-same`), as zeros, infinities and NaN do.
 use mathlib.Core.Path.{_≡_, refl, sym, ap, _∙_, subst}
 use mathlib.Core.Logic.{inl, inr}
-use mathlib.Core.Bool.{Bool}
+use mathlib.Core.Bool.{Bool, not}
 use Prim.Native.Nat.{ℕ, suc, _+_, _-_, _*_, _/_, _%_, _^_, _≤_, _<_, compare}
 use native.Mathlib.Nat.{le-trans, le-of-eq, not-le-of-lt, mul-assoc, mul-comm, mul-pos, div-mul-le-self, div-lt-iff-lt-mul, le-div-iff-mul-le, div-div-eq-div-mul, div-add-mod'}
 use native.Mathlib.Omega.{arith}
 use lib.Dec.{T}
 use lib.IntN.{ℤ, pos}
 use lib.Pow.{pow-add, pow-pos}
-use lib.Ieee.{Float, nan, inf, fin, Format, prec, emax, low, hid, up, down, size, round, fits}
-use lib.Ieee.Fits.{down-pos, kept-lt, round-is, round-fits}
+use lib.Ieee.{Float, nan, inf, fin, Format, prec, emax, low, hid, up, down, size, round, fits, neg, isNan}
+use lib.Ieee.Fits.{down-pos, kept-lt, round-is, round-fits, nan-fits, inf-fits}
+use lib.Ieee.Scale.{round-same}
 use lib.Ieee.Exact.{HasValue, round-exact}
 use Rattle.ieee.specs.Convert.{convert}
 use Rattle.ieee.specs.Rounding.{fraction, RoundTiesToEven}
 use Rattle.ieee.proofs.Naturals.{trichotomy, compare-lt, compare-eq, compare-gt}
 use Rattle.ieee.proofs.Values.{finite-fin, rescale}
-use Rattle.ieee.proofs.Units.{Lead, leads}
+use Rattle.ieee.proofs.Units.{Lead, leads, round-plain, round-neg}
 use Rattle.ieee.proofs.Grid.{on-grid, same-value, value-small}
 use Rattle.ieee.proofs.RoundsToEven.{Half, Cut, rounds, only}
 
@@ -127,3 +128,29 @@ module _ (f : Format) where
 
   pub convert-zero : (s : Bool) → convert f (fin s 0 (pos 0)) ≡ fin s 0 (pos 0)
   convert-zero s = convert-same (fin s 0 (pos 0)) (zero-fits f s)
+
+  -- a value of the format, a NaN only of a NaN, and `-x` turns only the sign
+  pub convert-fits : (x : Float) → T (fits f (convert f x))
+  unfolding convert
+  convert-fits nan = nan-fits f
+  convert-fits (inf s) = inf-fits f s
+  convert-fits (fin s m e) = round-fits f s (m * up e) (down e)
+
+  pub convert-plain : (x : Float) → T (not (isNan x)) → T (not (isNan (convert f x)))
+  unfolding convert
+  convert-plain nan h = h
+  convert-plain (inf s) h = h
+  convert-plain (fin s m e) h = round-plain f s (m * up e) (down e)
+
+  pub convert-neg : (x : Float) → convert f (neg x) ≡ neg (convert f x)
+  unfolding convert neg
+  convert-neg nan = refl
+  convert-neg (inf s) = refl
+  convert-neg (fin s m e) = round-neg f s (m * up e) (down e)
+
+  -- it depends on the value alone
+  pub convert-value : (x : Float) (s : Bool) (n d : ℕ) → 0 < d → HasValue x s n d → convert f x ≡ round f s n d
+  unfolding convert
+  convert-value nan s n d D v = absurd v
+  convert-value (inf t) s n d D v = absurd v
+  convert-value (fin t m e) s n d D v = ap (λ (b : Bool). round f b (m * up e) (down e)) (v .0) ∙ round-same f s (m * up e) (down e) n d (down-pos e) D (v .1)

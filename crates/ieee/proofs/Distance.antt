@@ -1,5 +1,5 @@
--- Of two numbers R / d and Y / d the first is as near to an exact size X as the second exactly where their middle, (R + Y) / (d * 2), is on the far side of X:
--- X is at most the middle where R is below Y, and at least the middle where R is above Y (`Middle`).
+-- Of two numbers R / d and Y / d the first is no farther from an exact size X than the second exactly where X is on the first's side of their middle, (R + Y) / (d * 2):
+-- at most the middle where R is below Y, and at least the middle where R is above Y (`Middle`; `as-near`, and back `middle-same`, `middle-other`).
 use mathlib.Core.Path.{_≡_, refl, sym, ap, _∙_, subst}
 use mathlib.Core.Logic.{inl, inr}
 use mathlib.Core.Bool.{Bool, true, false, Bool·beq}

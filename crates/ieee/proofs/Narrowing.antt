@@ -7,24 +7,18 @@ use native.Mathlib.Nat.{le-trans, le-of-eq, lt-of-lt-of-le, mul-assoc, mul-comm,
 use native.Mathlib.Omega.{arith}
 use lib.Dec.{T, lit≤}
 use lib.Pow.{pow-add, pow-pos, pow-mono, shl-lt, shr-lt}
-use lib.Ieee.{Float, nan, inf, fin, Format, binary32, binary64, prec, low, up, down, size, units, round, toBits, ofBits, fits, isNan, ne, neg, div}
+use lib.Ieee.{Float, Format, binary32, binary64, prec, low, size, units, round, toBits, ofBits, fits, isNan, ne, neg, div}
 use lib.Ieee.Bits.{ofBits-toBits, toBits-lt}
-use lib.Ieee.Fits.{down-pos, round-is, round-fits, nan-fits, inf-fits, nearest-le}
+use lib.Ieee.Fits.{round-is, nearest-le}
 use lib.Ieee.Exact.{HasValue}
 use lib.Ieee.Nearest.{closest, closest-same, nearest-ge}
-use lib.Ieee.Scale.{round-same}
 use Rattle.ieee.specs.Convert.{convert}
 use Rattle.ieee.proofs.Naturals.{closest-lt}
 use Rattle.ieee.proofs.Tests.{nan-is, zero-over-zero}
-use Rattle.ieee.proofs.Units.{Lead, round-neg, round-plain, neg-neg, neg-plain}
+use Rattle.ieee.proofs.Units.{Lead, neg-neg, neg-plain}
 use Rattle.ieee.proofs.Patterns.{drop-is, units-bits}
+use Rattle.ieee.proofs.ConvertFormat.{convert-value, convert-fits, convert-plain, convert-neg}
 use Rattle.ieee.proofs.Reading.{read-low, read-high, Pattern, pattern, in-size, ofBits-neg}
-
-narrow-value : (v : Float) (s : Bool) (n d : ℕ) → 0 < d → HasValue v s n d → convert binary32 v ≡ round binary32 s n d
-unfolding convert
-narrow-value nan s n d D h = absurd h
-narrow-value (inf t) s n d D h = absurd h
-narrow-value (fin t m e) s n d D h = ap (λ (b : Bool). round binary32 b (m * up e) (down e)) (h .0) ∙ round-same binary32 s (m * up e) (down e) n d (down-pos e) D (h .1)
 
 -- ---- sig * 2 ^ j / 2 ^ L at the format f, which drops k digits of the whole part in units: sig / 2 ^ d to the nearest
 module _ (f : Format) (s : Bool) (sig j L k d : ℕ) (D : d + (j + low f) ≡ L + k) where
@@ -81,7 +75,7 @@ module _ (sig j k d : ℕ) (small : sig < 2 ^ 53) (D : d + (j + 149) ≡ 1074 + 
 
   narrow-bits : (v : Float) → HasValue v false (sig * 2 ^ j) (2 ^ 1074) → toBits binary32 (convert binary32 v) ≡ min (k * 0x80_0000 + closest sig (2 ^ d)) 0x7f80_0000
   narrow-bits v h =
-      ap (toBits binary32) (narrow-value v false (sig * 2 ^ j) (2 ^ 1074) (pow-pos 1074) h ∙ round-shift binary32 false sig j 1074 k d D drops)
+      ap (toBits binary32) (convert-value binary32 v false (sig * 2 ^ j) (2 ^ 1074) (pow-pos 1074) h ∙ round-shift binary32 false sig j 1074 k d D drops)
       ∙ units-bits binary32 (closest sig (2 ^ d)) k q-le (q-ge lead)
 
 -- ---- what `narrow_size` returns, by the field of the pattern a
@@ -158,24 +152,6 @@ module _ (a : ℕ) (A : a ≤ 0x7ff0_0000_0000_0000) where
       whole k q h l = omega arith
 
 -- ---- the sign, and what is no number
-narrow-neg : (v : Float) → convert binary32 (neg v) ≡ neg (convert binary32 v)
-unfolding convert neg
-narrow-neg nan = refl
-narrow-neg (inf s) = refl
-narrow-neg (fin s m e) = round-neg binary32 s (m * up e) (down e)
-
-narrow-fits : (v : Float) → T (fits binary32 (convert binary32 v))
-unfolding convert
-narrow-fits nan = nan-fits binary32
-narrow-fits (inf s) = inf-fits binary32 s
-narrow-fits (fin s m e) = round-fits binary32 s (m * up e) (down e)
-
-narrow-plain : (v : Float) → T (not (isNan v)) → T (not (isNan (convert binary32 v)))
-unfolding convert
-narrow-plain nan h = h
-narrow-plain (inf s) h = h
-narrow-plain (fin s m e) h = round-plain binary32 s (m * up e) (down e)
-
 pub narrow-nan : (x : Float) → ne x x ≡ true → div binary32 (ofBits binary32 0) (ofBits binary32 0) ≡ convert binary32 x
 unfolding convert
 narrow-nan x h = zero-over-zero binary32 ∙ sym (ap (convert binary32) (nan-is x h))
@@ -195,13 +171,13 @@ module _ (x : Float) (F : T (fits binary64 x)) (N : T (not (isNan x))) where
   size-below h = omega (arith, in-size binary64 x F N)
 
   pub of-below : (r : ℕ) → r ≡ toBits binary32 (convert binary32 (ofBits binary64 b)) → Pattern binary32 (convert binary32 x) r
-  of-below r e = pattern binary32 (convert binary32 x) r (narrow-fits x) (narrow-plain x N) (e ∙ ap (λ (v : Float). toBits binary32 (convert binary32 v)) (ofBits-toBits binary64 x F))
+  of-below r e = pattern binary32 (convert binary32 x) r (convert-fits binary32 x) (convert-plain binary32 x N) (e ∙ ap (λ (v : Float). toBits binary32 (convert binary32 v)) (ofBits-toBits binary64 x F))
 
   turned : 2 ^ 63 ≤ b → ofBits binary64 (b - 2 ^ 63) ≡ neg x
   turned h = sym (neg-neg (ofBits binary64 (b - 2 ^ 63))) ∙ ap neg (sym (ofBits-neg binary64 b h wide) ∙ ofBits-toBits binary64 x F)
 
   pub of-above : 2 ^ 63 ≤ b → (r : ℕ) → r ≡ toBits binary32 (convert binary32 (ofBits binary64 (b - 2 ^ 63))) → Pattern binary32 (convert binary32 (neg x)) r
-  of-above h r e = pattern binary32 (convert binary32 (neg x)) r (narrow-fits (neg x)) (narrow-plain (neg x) (neg-plain x N)) (e ∙ ap (λ (v : Float). toBits binary32 (convert binary32 v)) (turned h))
+  of-above h r e = pattern binary32 (convert binary32 (neg x)) r (convert-fits binary32 (neg x)) (convert-plain binary32 (neg x) (neg-plain x N)) (e ∙ ap (λ (v : Float). toBits binary32 (convert binary32 v)) (turned h))
 
   pub above-is : (y : Float) → y ≡ convert binary32 (neg x) → neg y ≡ convert binary32 x
-  above-is y e = ap neg (e ∙ narrow-neg x) ∙ neg-neg (convert binary32 x)
+  above-is y e = ap neg (e ∙ convert-neg binary32 x) ∙ neg-neg (convert binary32 x)

@@ -3,14 +3,14 @@
 use mathlib.Core.Path.{_≡_, refl, sym, ap, _∙_, subst}
 use mathlib.Core.Logic.{inl, inr}
 use mathlib.Core.Bool.{Bool, true, false}
-use Prim.Native.Nat.{ℕ, suc, _+_, _-_, _*_, _/_, _^_, _≤_, _<_, compare}
+use Prim.Native.Nat.{ℕ, zero, suc, _+_, _-_, _*_, _/_, _^_, _≤_, _<_, compare}
 use native.Mathlib.Nat.{le-trans, le-of-eq, le-of-suc-le-suc, lt-of-lt-of-le, lt-of-le-of-lt, not-le-of-lt, mul-assoc, mul-comm, mul-left-comm, mul-pos, mul-le-mul, mul-le-mul-right, mul-le-mul-left, lt-of-mul-lt-mul-right, le-of-mul-le-mul-right, div-lt-iff-lt-mul, le-div-iff-mul-le, pow-succ'}
 use native.Mathlib.Omega.{arith}
 use lib.Dec.{T, lit≤}
 use lib.IntN.{ℤ, pos}
 use lib.Pow.{pow-add, pow-pos, pow-mono}
 use lib.Ieee.{Float, nan, inf, fin, Format, binary32, binary64, prec, emax, low, hid, up, down, size, fits}
-use lib.Ieee.Fits.{down-pos}
+use lib.Ieee.Fits.{down-pos, nan-fits, inf-fits}
 use lib.Ieee.Digits.{size-lt}
 use Rattle.ieee.specs.Order.{finite}
 use Rattle.ieee.specs.Sqrt.{root, roundRoot, sqrt}
@@ -159,3 +159,13 @@ module _ (f : Format) where
   pub sqrt-below-all : sqrt f (inf true) ≡ nan
   unfolding sqrt
   sqrt-below-all = refl
+
+  -- of a value of the format, a value of the format
+  pub sqrt-fits : (x : Float) → T (fits f x) → T (fits f (sqrt f x))
+  unfolding sqrt
+  sqrt-fits nan F = nan-fits f
+  sqrt-fits (inf true) F = nan-fits f
+  sqrt-fits (inf false) F = inf-fits f false
+  sqrt-fits (fin s zero e) F = F
+  sqrt-fits (fin true (suc m) e) F = nan-fits f
+  sqrt-fits (fin false (suc m) e) F = root-rounds f (suc m * up e) (down e) (down-pos e) .held

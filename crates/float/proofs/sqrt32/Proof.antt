@@ -13,8 +13,7 @@ use lib.Ieee.Exact.{HasValue}
 use Rattle.float.specs.Scaled.{IsScaled}
 use Rattle.ieee.specs.Sqrt.{sqrt, nearestRoot}
 use Rattle.ieee.proofs.Reading.{Pattern}
-use Rattle.ieee.proofs.AboveZero.{above-zero, above-plain, above-some, sqrt-nan, sqrt-zero, sqrt-below, sqrt-top}
-use Rattle.ieee.proofs.AboveZero as AboveZero
+use Rattle.ieee.proofs.AboveZero.{above, above-zero, above-plain, above-some, sqrt-nan, sqrt-zero, sqrt-below, sqrt-top}
 use Rattle.ieee.proofs.SqrtPatterns.{m-hi, exact32, sqrt32-pattern, doubled, plain}
 use Rattle.float.proofs.sqrt32.Statement.{statement}
 use Rattle.float.proofs.sqrt32.Tie as tie
@@ -29,8 +28,8 @@ held c = subst T (sym (c .before .before .before .good .0 .1)) tt
 wide : (c : tie.Else3) → T (fits binary64 (x c))
 wide c = fits-widens (x c) (held c)
 
-above : (c : tie.Else3) → T (AboveZero.above (x c))
-above c = above-zero binary32 (x c) (c .before .before .if1 .left) (c .before .if2 .left) (c .if3 .left)
+left : (c : tie.Else3) → T (above (x c))
+left c = above-zero binary32 (x c) (c .before .before .if1 .left) (c .before .if2 .left) (c .if3 .left)
 
 returns : tie.Need-returns
 returns c = sqrt-nan binary32 (c .before .args .x) (c .if1 .taken)
@@ -42,16 +41,16 @@ returns-3 : tie.Need-returns-3
 returns-3 c = sqrt-below binary32 (c .before .before .before .args .x) (c .if3 .taken)
 
 float-to-float-b : tie.Need-float-to-float-b
-float-to-float-b c = and-i (fits binary64 (x (c .before))) (not (isNan (x (c .before)))) (wide (c .before)) (above-plain (x (c .before)) (above (c .before)))
+float-to-float-b c = and-i (fits binary64 (x (c .before))) (not (isNan (x (c .before)))) (wide (c .before)) (above-plain (x (c .before)) (left (c .before)))
 
 float-to-bits-b : tie.Need-float-to-bits-b
-float-to-bits-b c = above-plain (x (c .before)) (above (c .before))
+float-to-bits-b c = above-plain (x (c .before)) (left (c .before))
 
 returns-4 : tie.Need-returns-4
-returns-4 c = sqrt-top (x (c .before .before)) (wide (c .before .before)) (above (c .before .before)) binary32 (c .if4 .taken)
+returns-4 c = sqrt-top (x (c .before .before)) (wide (c .before .before)) (left (c .before .before)) binary32 (c .if4 .taken)
 
 scaled-requires : tie.Need-scaled-requires
-scaled-requires c κs = (above-some (x (c .before .before)) (wide (c .before .before)) (above (c .before .before)), c .if4 .left)
+scaled-requires c κs = (above-some (x (c .before .before)) (wide (c .before .before)) (left (c .before .before)), c .if4 .left)
 
 mul-m : tie.Need-mul-m
 mul-m c = omega arith

@@ -12,8 +12,7 @@ use lib.Ieee.Exact.{HasValue}
 use Rattle.float.specs.Scaled.{IsScaled}
 use Rattle.ieee.specs.Sqrt.{sqrt, nearestRoot}
 use Rattle.ieee.proofs.Reading.{Pattern}
-use Rattle.ieee.proofs.AboveZero.{above-zero, above-plain, above-some, sqrt-nan, sqrt-zero, sqrt-below, sqrt-top}
-use Rattle.ieee.proofs.AboveZero as AboveZero
+use Rattle.ieee.proofs.AboveZero.{above, above-zero, above-plain, above-some, sqrt-nan, sqrt-zero, sqrt-below, sqrt-top}
 use Rattle.ieee.proofs.SqrtPatterns.{m-hi, exact64, sqrt64-pattern, doubled, plain}
 use Rattle.float.proofs.sqrt64.Statement.{statement}
 use Rattle.float.proofs.sqrt64.Tie as tie
@@ -25,8 +24,8 @@ x c = c .before .before .before .args .x
 held : (c : tie.Else3) → T (fits binary64 (x c))
 held c = subst T (sym (c .before .before .before .good .0 .1)) tt
 
-above : (c : tie.Else3) → T (AboveZero.above (x c))
-above c = above-zero binary64 (x c) (c .before .before .if1 .left) (c .before .if2 .left) (c .if3 .left)
+left : (c : tie.Else3) → T (above (x c))
+left c = above-zero binary64 (x c) (c .before .before .if1 .left) (c .before .if2 .left) (c .if3 .left)
 
 returns : tie.Need-returns
 returns c = sqrt-nan binary64 (c .before .args .x) (c .if1 .taken)
@@ -38,13 +37,13 @@ returns-3 : tie.Need-returns-3
 returns-3 c = sqrt-below binary64 (c .before .before .before .args .x) (c .if3 .taken)
 
 float-to-bits-b : tie.Need-float-to-bits-b
-float-to-bits-b c = above-plain (x c) (above c)
+float-to-bits-b c = above-plain (x c) (left c)
 
 returns-4 : tie.Need-returns-4
-returns-4 c = sqrt-top (x (c .before)) (held (c .before)) (above (c .before)) binary64 (c .if4 .taken)
+returns-4 c = sqrt-top (x (c .before)) (held (c .before)) (left (c .before)) binary64 (c .if4 .taken)
 
 scaled-requires : tie.Need-scaled-requires
-scaled-requires c κs = (above-some (x (c .before)) (held (c .before)) (above (c .before)), c .if4 .left)
+scaled-requires c κs = (above-some (x (c .before)) (held (c .before)) (left (c .before)), c .if4 .left)
 
 mul-m : tie.Need-mul-m
 mul-m c = omega arith
