@@ -4,7 +4,9 @@
 use crate::{images::Image, random, speed::beside, value::Value, Run, Stored, Topic};
 
 mod floats;
+mod gradients;
 mod known;
+mod model;
 mod patterns;
 
-pub const ALL: &[Topic] = &[known::TOPIC, floats::TOPIC, patterns::TOPIC];
+pub const ALL: &[Topic] = &[known::TOPIC, floats::TOPIC, gradients::TOPIC, model::TOPIC, patterns::TOPIC];
