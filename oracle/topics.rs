@@ -5,9 +5,20 @@ use crate::{images::Image, random, speed::beside, value::Value, Run, Stored, Top
 
 mod floats;
 mod grid;
+mod gradients;
 mod known;
+mod model;
 mod patterns;
 mod sample;
 mod window;
 
-pub const ALL: &[Topic] = &[known::TOPIC, floats::TOPIC, window::TOPIC, grid::TOPIC, sample::TOPIC, patterns::TOPIC];
+pub const ALL: &[Topic] = &[
+    known::TOPIC,
+    floats::TOPIC,
+    window::TOPIC,
+    grid::TOPIC,
+    sample::TOPIC,
+    gradients::TOPIC,
+    model::TOPIC,
+    patterns::TOPIC,
+];

@@ -4,3 +4,5 @@ pub mod floats;
 pub mod grids;
 pub mod samples;
 pub mod windows;
+pub mod pixel_gradients;
+pub mod covariance_model;

@@ -1,55 +1,39 @@
 -- The ranges are what the machine's comparisons with their limits say: a limit is q * 2 ^ k. Assumes nothing.
 use mathlib.Core.Path.{_≡_, refl, sym, ap, _∙_}
-use mathlib.Core.Bool.{Bool, true, false, not, _&&_, _||_}
-use mathlib.Core.Logic.{inl, inr}
-use Prim.Native.Nat.{ℕ, zero, suc, _+_, _*_, _^_, _≤_, _<_}
-use native.Mathlib.Nat.{le-of-lt, mul-one, zero-mul, mul-le-mul-left}
+use mathlib.Core.Bool.{Bool, true, false, _&&_}
+use Prim.Native.Nat.{ℕ, zero, suc, _*_, _^_, _≤_, _<_}
+use native.Mathlib.Nat.{mul-one, zero-mul, mul-le-mul-left}
 use native.Mathlib.Omega.{arith}
-use lib.Dec.{leb, ltb, eqb, eqb·suc-zero}
+use lib.Dec.{leb, eqb, leb·zero, eqb·suc-zero}
 use lib.IntN.{ℤ, pos, negsuc}
 use lib.Pow.{pow-pos}
 use lib.Ieee.{Float, nan, inf, fin, up, down, le, lt, eq, ne, isNan}
-use borrow.Author.Tests.{lt-ltb, le-ltb, le-leb, lt-leb, eq-eqb, ne-eqb}
-use Rattle.ieee.proofs.Sqrts.{trichotomy}
+use lib.Ieee.Fits.{down-pos}
+use lib.Ieee.Exact.{HasValue}
+use borrow.Author.Tests.{le-leb, eq-eqb, ne-eqb}
+use Rattle.ieee.proofs.Comparing.{le-is}
 use Rattle.model.specs.Ranges.{within, upTo}
 
--- below, or level
-at-most : (a b : ℕ) → ltb a b || (eqb a b && true) ≡ leb a b
-at-most a b = elim (trichotomy a b) [
-  | inl l ↦ rw (lt-ltb a b l, le-leb a b (le-of-lt l))
-  | inr (inl e) ↦ rw (le-ltb a b (omega (arith, e)), eq-eqb a b e, le-leb a b (omega (arith, e)))
-  | inr (inr g) ↦ rw (le-ltb a b (le-of-lt g), ne-eqb a b (λ q. omega arith), lt-leb a b g)
-]
-
-at-least : (a b : ℕ) → ltb a b || (eqb b a && true) ≡ leb a b
-at-least a b = elim (trichotomy a b) [
-  | inl l ↦ rw (lt-ltb a b l, le-leb a b (le-of-lt l))
-  | inr (inl e) ↦ rw (le-ltb a b (omega (arith, e)), eq-eqb b a (sym e), le-leb a b (omega (arith, e)))
-  | inr (inr g) ↦ rw (le-ltb a b (le-of-lt g), ne-eqb b a (λ q. omega arith), lt-leb a b g)
-]
-
--- a number that isn't above zero and one that isn't below
-across : (a b : ℕ) → ltb 0 (a + b) || (eqb a b && eqb a 0) ≡ true
-across zero zero = refl
-across zero (suc b) = rw (lt-ltb 0 (zero + suc b) (omega arith))
-across (suc a) b = rw (lt-ltb 0 (suc a + b) (omega arith))
+-- ---- x and a limit, over the denominator of x
 
 module _ (q k m : ℕ) (e : ℤ) where
+  value : (s : Bool) → HasValue (fin s m e) s (m * up e) (down e)
+  value s = (refl, refl)
+
+  limit : (s : Bool) → HasValue (fin s q (pos k)) s (q * 2 ^ k * down e) (down e)
+  limit s = (refl, sym (mul-one (q * 2 ^ k * down e)))
+
   under : le (fin false m e) (fin false q (pos k)) ≡ leb (m * up e) (q * 2 ^ k * down e)
-  unfolding le lt eq
-  under = at-most (m * up e * 1) (q * 2 ^ k * down e) ∙ ap (λ (a : ℕ). leb a (q * 2 ^ k * down e)) (mul-one (m * up e))
+  under = le-is _ _ false false (m * up e) (q * 2 ^ k * down e) (down e) (down-pos e) (value false) (limit false)
 
   over : le (fin true q (pos k)) (fin true m e) ≡ leb (m * up e) (q * 2 ^ k * down e)
-  unfolding le lt eq
-  over = at-least (m * up e * 1) (q * 2 ^ k * down e) ∙ ap (λ (a : ℕ). leb a (q * 2 ^ k * down e)) (mul-one (m * up e))
+  over = le-is _ _ true true (q * 2 ^ k * down e) (m * up e) (down e) (down-pos e) (limit true) (value true)
 
   minus-under : le (fin true m e) (fin false q (pos k)) ≡ true
-  unfolding le lt eq
-  minus-under = across (m * up e * 1) (q * 2 ^ k * down e)
+  minus-under = le-is _ _ true false (m * up e) (q * 2 ^ k * down e) (down e) (down-pos e) (value true) (limit false)
 
   plus-over : le (fin true q (pos k)) (fin false m e) ≡ true
-  unfolding le lt eq
-  plus-over = across (q * 2 ^ k * down e) (m * up e * 1)
+  plus-over = le-is _ _ true false (q * 2 ^ k * down e) (m * up e) (down e) (down-pos e) (limit true) (value false)
 
 both : (b : Bool) → b && true ≡ b
 both true = refl
@@ -68,20 +52,23 @@ within-is q k (fin true m e) =
 
 -- ---- 0 ≤ x ≤ limit
 
+naught : (e : ℤ) → HasValue (fin false 0 (pos 0)) false 0 (down e)
+naught e = (refl, zero-mul (down e))
+
 up-pos : (e : ℤ) → 0 < up e
 up-pos (pos k) = pow-pos k
 up-pos (negsuc k) = omega arith
 
--- minus zero is not below zero, and no other number with a minus is at or above it
+-- a number with a minus is at or above zero only where it is minus zero
 minus-zero : (m : ℕ) (e : ℤ) → le (fin false 0 (pos 0)) (fin true m e) ≡ eqb m 0
-unfolding le lt eq
-minus-zero zero e = rw (zero-mul (down e), zero-mul (up e))
-minus-zero (suc m) e =
-    ap (λ (b : Bool). b && eqb (0 * down e) 0) (ne-eqb (0 * down e) (suc m * up e * 1) (λ q. omega (arith, q, zero-mul (down e), mul-one (suc m * up e), mul-le-mul-left (suc m) (up-pos e)))) ∙ sym (eqb·suc-zero m)
+minus-zero m e = le-is _ _ false true 0 (m * up e) (down e) (down-pos e) (naught e) (refl, refl) ∙ scaled m
+  where
+    scaled : (m : ℕ) → eqb (m * up e) 0 ≡ eqb m 0
+    scaled zero = ap (λ (n : ℕ). eqb n 0) (zero-mul (up e))
+    scaled (suc m) = ne-eqb (suc m * up e) 0 (λ q. omega (arith, q, mul-le-mul-left (suc m) (up-pos e))) ∙ sym (eqb·suc-zero m)
 
 plus-zero : (m : ℕ) (e : ℤ) → le (fin false 0 (pos 0)) (fin false m e) ≡ true
-unfolding le lt eq
-plus-zero m e = at-most (0 * down e) (m * up e * 1) ∙ le-leb (0 * down e) (m * up e * 1) (omega (arith, zero-mul (down e)))
+plus-zero m e = le-is _ _ false false 0 (m * up e) (down e) (down-pos e) (naught e) (refl, refl) ∙ leb·zero (m * up e)
 
 pub upTo-is : (q k : ℕ) (x : Float) → le (fin false 0 (pos 0)) x && le x (fin false q (pos k)) ≡ upTo (q * 2 ^ k) x
 unfolding upTo le lt eq
@@ -90,7 +77,8 @@ upTo-is q k (inf true) = refl
 upTo-is q k (inf false) = refl
 upTo-is q k (fin false m e) = ap (λ (b : Bool). b && le (fin false m e) (fin false q (pos k))) (plus-zero m e) ∙ under q k m e
 upTo-is q k (fin true zero e) =
-    ap (λ (b : Bool). b && le (fin true zero e) (fin false q (pos k))) (minus-zero zero e) ∙ minus-under q k zero e ∙ sym (le-leb (0 * up e) (q * 2 ^ k * down e) (omega (arith, zero-mul (up e))))
+    ap (λ (b : Bool). b && le (fin true zero e) (fin false q (pos k))) (minus-zero zero e) ∙ minus-under q k zero e
+    ∙ sym (le-leb (0 * up e) (q * 2 ^ k * down e) (omega (arith, zero-mul (up e))))
 upTo-is q k (fin true (suc m) e) =
     ap (λ (b : Bool). b && le (fin true (suc m) e) (fin false q (pos k))) (minus-zero (suc m) e ∙ eqb·suc-zero m)
     ∙ ap (λ (b : Bool). b && leb (suc m * up e) (q * 2 ^ k * down e)) (sym (eqb·suc-zero m))

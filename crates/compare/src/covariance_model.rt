@@ -1,0 +1,144 @@
+// The covariance model. Knots, covariances, offsets and growths are lent by their floats; the figures go to `out`.
+ghost use mathlib.Core.Path.{_≡_};
+ghost use Rattle.model.specs.Knots.{atOf};
+ghost use Rattle.model.specs.Noise.{noiseAt, total};
+ghost use Rattle.model.specs.Model.{modelOf};
+ghost use Rattle.refine.specs.Covariance.{number, figures};
+ghost use Rattle.compare.specs.Lent.{entries};
+ghost use Rattle.compare.specs.Models.{table, wide, three, whole, gained, modelled};
+use model::CovarianceModel;
+use model::SystematicModel;
+use model::Width;
+use refine::Judged;
+use refine::PositionCovariance;
+
+fn width_of(known: bool, w: f32) -> Width
+    ensures { λ r. ⌜ r ≡ wide known w ⌝ }
+{
+    if known {
+        Width::Known(w)
+    } else {
+        Width::Unknown
+    }
+}
+
+#[no_mangle]
+pub extern "C" fn vuzgari_compare_at(
+    widths: &[f32; 16],
+    gains: &[f32; 16],
+    residuals: &[f32; 16],
+    count: usize,
+    floor: f32,
+    known: bool,
+    w: f32,
+    out: &mut [f32; 2],
+) -> u32
+    ensures { λ r. ⌜ (r ≡ atOf (table (now (widths .entry)) (now (gains .entry)) (now (residuals .entry)) count floor) (wide known w) .number) × (now (out .exit) ≡ gained (atOf (table (now (widths .entry)) (now (gains .entry)) (now (residuals .entry)) count floor) (wide known w))) ⌝ }
+{
+    let a = *widths;
+    let b = *gains;
+    let c = *residuals;
+    let s = SystematicModel {
+        widths: a,
+        gains: b,
+        residuals: c,
+        count,
+        floor,
+    };
+    let found = s.at(width_of(known, w));
+    *out = [found.gain, found.residual];
+    found.number
+}
+
+#[no_mangle]
+pub extern "C" fn vuzgari_compare_model(
+    widths: &[f32; 16],
+    gains: &[f32; 16],
+    residuals: &[f32; 16],
+    count: usize,
+    floor: f32,
+    noise: &[f32; 3],
+    offset: &[f32; 2],
+    known: bool,
+    w: f32,
+    grid: f32,
+    out: &mut [f32; 8],
+) -> u32
+    ensures { λ r. ⌜ (r ≡ modelOf (table (now (widths .entry)) (now (gains .entry)) (now (residuals .entry)) count floor) (three (now (noise .entry))) (now (offset .entry)) (wide known w) grid .number) × (now (out .exit) ≡ modelled (modelOf (table (now (widths .entry)) (now (gains .entry)) (now (residuals .entry)) count floor) (three (now (noise .entry))) (now (offset .entry)) (wide known w) grid .model)) ⌝ }
+{
+    let a = *widths;
+    let b = *gains;
+    let c = *residuals;
+    let u = *offset;
+    let s = SystematicModel {
+        widths: a,
+        gains: b,
+        residuals: c,
+        count,
+        floor,
+    };
+    let n = PositionCovariance::new(noise[0], noise[1], noise[2]);
+    let answer = s.model(n, u, width_of(known, w), grid);
+    let m = answer.model;
+    let d = m.noise;
+    let e = m.systematic;
+    let g = m.growth;
+    *out = [d.xx, d.xy, d.yy, e.xx, e.xy, e.yy, g[0], g[1]];
+    answer.number
+}
+
+#[no_mangle]
+pub extern "C" fn vuzgari_compare_noise_at(
+    noise: &[f32; 3],
+    systematic: &[f32; 3],
+    growth: &[f32; 2],
+    sigma: f32,
+    out: &mut [f32; 3],
+) -> u32
+    ensures { λ r. ⌜ (r ≡ number (noiseAt (whole (now (noise .entry)) (now (systematic .entry)) (now (growth .entry))) sigma)) × (now (out .exit) ≡ entries (figures (noiseAt (whole (now (noise .entry)) (now (systematic .entry)) (now (growth .entry))) sigma))) ⌝ }
+{
+    let g = *growth;
+    let m = CovarianceModel {
+        noise: PositionCovariance::new(noise[0], noise[1], noise[2]),
+        systematic: PositionCovariance::new(systematic[0], systematic[1], systematic[2]),
+        growth: g,
+    };
+    match m.noise_at(sigma) {
+        Judged::Covariance(c) => {
+            *out = [c.xx, c.xy, c.yy];
+            0
+        }
+        Judged::Refused(k) => {
+            *out = [0.0, 0.0, 0.0];
+            k
+        }
+    }
+}
+
+#[no_mangle]
+pub extern "C" fn vuzgari_compare_total(
+    noise: &[f32; 3],
+    systematic: &[f32; 3],
+    growth: &[f32; 2],
+    sigma: f32,
+    out: &mut [f32; 3],
+) -> u32
+    ensures { λ r. ⌜ (r ≡ number (total (whole (now (noise .entry)) (now (systematic .entry)) (now (growth .entry))) sigma)) × (now (out .exit) ≡ entries (figures (total (whole (now (noise .entry)) (now (systematic .entry)) (now (growth .entry))) sigma))) ⌝ }
+{
+    let g = *growth;
+    let m = CovarianceModel {
+        noise: PositionCovariance::new(noise[0], noise[1], noise[2]),
+        systematic: PositionCovariance::new(systematic[0], systematic[1], systematic[2]),
+        growth: g,
+    };
+    match m.total(sigma) {
+        Judged::Covariance(c) => {
+            *out = [c.xx, c.xy, c.yy];
+            0
+        }
+        Judged::Refused(k) => {
+            *out = [0.0, 0.0, 0.0];
+            k
+        }
+    }
+}

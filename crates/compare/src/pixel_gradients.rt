@@ -1,0 +1,110 @@
+// The gradient accumulator. A state is lent by its parts, which hold at exit the state handed back.
+ghost use mathlib.Core.Path.{_≡_};
+ghost use mathlib.Core.List.{[], _∷_};
+ghost use Rattle.gradients.specs.Gradients.{resetOf, addOf, covarianceOf};
+ghost use Rattle.refine.specs.Covariance.{number, figures};
+ghost use Rattle.compare.specs.Lent.{state, Left, entries};
+use gradients::Handed;
+use gradients::PixelGradients;
+use refine::Judged;
+
+#[no_mangle]
+pub extern "C" fn vuzgari_compare_reset(
+    origin: &mut [i32; 2],
+    side: &mut usize,
+    gx: &mut [f32; 1024],
+    gy: &mut [f32; 1024],
+    x: i32,
+    y: i32,
+    n: usize,
+) -> u32
+    ensures { λ r. ⌜ Left (resetOf (state (now (origin .entry)) (now (side .entry)) (now (gx .entry)) (now (gy .entry))) (x ∷ y ∷ []) n) r (now (origin .exit)) (now (side .exit)) (now (gx .exit)) (now (gy .exit)) ⌝ }
+{
+    let o = *origin;
+    let m = *side;
+    let a = *gx;
+    let b = *gy;
+    let s = PixelGradients {
+        origin: o,
+        side: m,
+        gx: a,
+        gy: b,
+    };
+    let h = s.reset([x, y], n);
+    let t = h.state;
+    let p = t.origin;
+    let c = t.gx;
+    let d = t.gy;
+    *origin = p;
+    *side = t.side;
+    *gx = c;
+    *gy = d;
+    h.number
+}
+
+#[no_mangle]
+pub extern "C" fn vuzgari_compare_add(
+    origin: &mut [i32; 2],
+    side: &mut usize,
+    gx: &mut [f32; 1024],
+    gy: &mut [f32; 1024],
+    x: i32,
+    y: i32,
+    vx: f32,
+    vy: f32,
+) -> u32
+    ensures { λ r. ⌜ Left (addOf (state (now (origin .entry)) (now (side .entry)) (now (gx .entry)) (now (gy .entry))) x y (vx ∷ vy ∷ [])) r (now (origin .exit)) (now (side .exit)) (now (gx .exit)) (now (gy .exit)) ⌝ }
+{
+    let o = *origin;
+    let m = *side;
+    let a = *gx;
+    let b = *gy;
+    let s = PixelGradients {
+        origin: o,
+        side: m,
+        gx: a,
+        gy: b,
+    };
+    let h = s.add(x, y, [vx, vy]);
+    let t = h.state;
+    let p = t.origin;
+    let c = t.gx;
+    let d = t.gy;
+    *origin = p;
+    *side = t.side;
+    *gx = c;
+    *gy = d;
+    h.number
+}
+
+// The figures go to `out`.
+#[no_mangle]
+pub extern "C" fn vuzgari_compare_covariance(
+    origin: &[i32; 2],
+    side: usize,
+    gx: &[f32; 1024],
+    gy: &[f32; 1024],
+    out: &mut [f32; 3],
+) -> u32
+    ensures { λ r. ⌜ (r ≡ number (covarianceOf (state (now (origin .entry)) side (now (gx .entry)) (now (gy .entry))))) × (now (out .exit) ≡ entries (figures (covarianceOf (state (now (origin .entry)) side (now (gx .entry)) (now (gy .entry)))))) ⌝ }
+{
+    let o = *origin;
+    let a = *gx;
+    let b = *gy;
+    let s = PixelGradients {
+        origin: o,
+        side,
+        gx: a,
+        gy: b,
+    };
+    match s.covariance() {
+        Judged::Covariance(c) => {
+            *out = [c.xx, c.xy, c.yy];
+            0
+        }
+        Judged::Refused(n) => {
+            *out = [0.0, 0.0, 0.0];
+            n
+        }
+    }
+}

@@ -1,0 +1,298 @@
+//! The systematic model and the covariance model: document 01's numbers in their order, and what is accepted beside the original's.
+
+use super::{beside, random::*, Run, Topic, Value};
+use original::{
+    refine::PositionCovariance,
+    uncertainty::{knot, CovarianceModel, Knot, SystematicModel},
+};
+use std::{collections::BTreeMap, iter::repeat_with};
+
+pub const TOPIC: Topic = Topic { name: "model", gate: true, compare, store: None, speed: Some(speed) };
+
+type Column = [f32; 16];
+
+unsafe extern "C" {
+    safe fn vuzgari_compare_at(
+        widths: &Column, gains: &Column, residuals: &Column, count: usize, floor: f32, known: bool, w: f32, out: &mut [f32; 2],
+    ) -> u32;
+    safe fn vuzgari_compare_model(
+        widths: &Column, gains: &Column, residuals: &Column, count: usize, floor: f32, noise: &[f32; 3], offset: &[f32; 2],
+        known: bool, w: f32, grid: f32, out: &mut [f32; 8],
+    ) -> u32;
+    safe fn vuzgari_compare_noise_at(noise: &[f32; 3], systematic: &[f32; 3], growth: &[f32; 2], sigma: f32, out: &mut [f32; 3]) -> u32;
+    safe fn vuzgari_compare_total(noise: &[f32; 3], systematic: &[f32; 3], growth: &[f32; 2], sigma: f32, out: &mut [f32; 3]) -> u32;
+}
+
+/// Knots, any at all, of which the first `count` are meant.
+#[derive(Clone)]
+struct Knots {
+    widths: Column,
+    gains: Column,
+    residuals: Column,
+    count: usize,
+    floor: f32,
+}
+
+fn within(limit: f32, x: f32) -> bool {
+    x.abs() <= limit
+}
+
+fn up_to_thousand(x: f32) -> bool {
+    (0.0..=1000.0).contains(&x)
+}
+
+impl Knots {
+    fn counted(&self) -> impl Iterator<Item = Knot> + '_ {
+        (0..self.count.min(16)).map(|k| knot(self.widths[k], self.gains[k], self.residuals[k]))
+    }
+
+    /// What refuses the knots: 14, then 12, or 0.
+    fn refusal(&self) -> u32 {
+        let knots: Vec<Knot> = self.counted().collect();
+        if !(1..=16).contains(&self.count) || !knots.windows(2).all(|pair| pair[0].width < pair[1].width) {
+            return 14;
+        }
+        let ranged = knots.iter().all(|k| [k.width, k.gain, k.residual].iter().all(|&x| within(1000.0, x)));
+        if ranged && up_to_thousand(self.floor) { 0 } else { 12 }
+    }
+
+    /// Calls the original's model, whose knots are `'static`.
+    fn original<R>(&self, call: impl FnOnce(&SystematicModel) -> R) -> R {
+        let knots: Vec<Knot> = self.counted().collect();
+        // SAFETY: the model is gone when `call` returns, and nothing that it answers holds a knot.
+        let knots: &'static [Knot] = unsafe { &*(&raw const knots[..]) };
+        call(&SystematicModel { knots, floor: self.floor })
+    }
+
+    fn any(random: &mut Random) -> Self {
+        let count = match random.below(8) {
+            0 => random.pick(&[0, 1, 2, 16, 17, usize::MAX]),
+            _ => 1 + random.below(16) as usize,
+        };
+        let wild = random.below(4) == 0;
+        let number = |random: &mut Random| if wild && random.below(16) == 0 { random.f32() } else { ranged(random, 1000.0) };
+        let mut knots = Knots {
+            widths: std::array::from_fn(|_| number(random)),
+            gains: std::array::from_fn(|_| number(random)),
+            residuals: std::array::from_fn(|_| number(random)),
+            count,
+            floor: if random.below(8) == 0 { ranged(random, 1000.0) } else { ranged(random, 1000.0).abs() },
+        };
+        // rising mostly; past the counted ones anything
+        if random.below(8) != 0 {
+            let n = count.min(16);
+            knots.widths[..n].sort_by(f32::total_cmp);
+        }
+        if random.below(4) == 0 {
+            (count.min(16)..16).for_each(|k| knots.gains[k] = random.f32());
+        }
+        knots
+    }
+
+    /// None, at a knot, next to it, between two, or any.
+    fn width(&self, random: &mut Random) -> Option<f32> {
+        let k = random.below(16) as usize;
+        let step = random.below(3) as i32 - 1;
+        match random.below(8) {
+            0 => None,
+            1 => Some(random.f32()),
+            2 => Some(random.pick(&[f32::INFINITY, f32::NEG_INFINITY, f32::NAN, 0.0, -0.0])),
+            3 | 4 => Some(f32::from_bits(self.widths[k].to_bits().wrapping_add_signed(step))),
+            _ => Some((self.widths[k] + self.widths[(k + 1) % 16]) / 2.0),
+        }
+    }
+}
+
+/// Of a magnitude of at most `limit`: the limits, zeros, subnormal numbers, small whole numbers and parts, any size, or next beyond.
+fn ranged(random: &mut Random, limit: f32) -> f32 {
+    let size = match random.below(16) {
+        0 => limit,
+        1 => 0.0,
+        2 => f32::from_bits(random.below(1 << 23) as u32),
+        3 => 1e-20,
+        4 | 5 => random.below(8) as f32 / 4.0,
+        6 => f32::from_bits(limit.to_bits() - random.below(2) as u32),
+        7 if random.below(32) == 0 => f32::from_bits(limit.to_bits() + 1),
+        8..=11 => f32::from_bits(random.below(u64::from(limit.to_bits())) as u32),
+        _ => limit * random.below(1 << 24) as f32 / (1 << 24) as f32,
+    };
+    if random.below(2) == 0 { size } else { -size }
+}
+
+fn sigma(random: &mut Random) -> f32 {
+    match random.below(8) {
+        0 => f32::NAN,
+        1 => random.f32(),
+        2 => random.pick(&[0.0, 0.288_675_13, 0.288_675_1, 0.288_675_2, 1.0]),
+        _ => ranged(random, 1000.0),
+    }
+}
+
+/// Three floats in range, or now and then one that isn't.
+fn covariance(random: &mut Random, limit: f32) -> [f32; 3] {
+    let wild = random.below(16) == 0;
+    std::array::from_fn(|_| if wild { random.f32() } else { ranged(random, limit) })
+}
+
+impl Value for Knots {
+    fn same(&self, other: &Self) -> bool {
+        self.shown() == other.shown()
+    }
+    fn shown(&self) -> String {
+        let knots: Vec<String> = (0..16).map(|k| [self.widths[k], self.gains[k], self.residuals[k]].shown()).collect();
+        format!("count {}, floor {}, knots {}", self.count, self.floor.shown(), knots.join(" "))
+    }
+    /// With a knot less.
+    fn smaller(&self) -> Vec<Self> {
+        let one_less = |count| Knots { count, ..self.clone() };
+        (1..self.count.min(18)).rev().take(1).map(one_less).collect()
+    }
+}
+
+fn floats(c: PositionCovariance) -> [f32; 3] {
+    [c.xx, c.xy, c.yy]
+}
+
+fn of(c: [f32; 3]) -> PositionCovariance {
+    PositionCovariance::new(c[0], c[1], c[2])
+}
+
+/// Knots, the noise part, an offset, a width and a grid.
+type Estimate = (Knots, [f32; 3], [f32; 2], Option<f32>, f32);
+
+fn ours_model((knots, noise, offset, width, grid): &Estimate) -> (u32, [f32; 8]) {
+    let mut out = [f32::NAN; 8];
+    let w = width.unwrap_or(f32::from_bits(0x7fc0_1234));
+    let number = vuzgari_compare_model(
+        &knots.widths, &knots.gains, &knots.residuals, knots.count, knots.floor, noise, offset, width.is_some(), w, *grid, &mut out,
+    );
+    (number, out)
+}
+
+fn their_model((knots, noise, offset, width, grid): &Estimate) -> (u32, [f32; 8]) {
+    let refused = |number| (number, [0.0; 8]);
+    match knots.refusal() {
+        0 => {}
+        number => return refused(number),
+    }
+    let ranged = noise.iter().all(|&x| within(1e6, x)) && offset.iter().all(|&x| within(1000.0, x)) && up_to_thousand(*grid);
+    if !ranged {
+        return refused(12);
+    }
+    let model = knots.original(|systematic| systematic.model(of(*noise), *offset, *width, *grid));
+    let ([a, b, c], [d, e, f], [g, h]) = (floats(model.noise), floats(model.systematic), model.growth);
+    if [d, e, f].iter().all(|x| x.is_finite()) { (0, [a, b, c, d, e, f, g, h]) } else { refused(13) }
+}
+
+/// The noise part, the systematic part, growth and sigma.
+type Level = ([f32; 3], [f32; 3], [f32; 2], f32);
+
+fn at_level(ours: extern "C" fn(&[f32; 3], &[f32; 3], &[f32; 2], f32, &mut [f32; 3]) -> u32) -> impl Fn(&Level) -> (u32, [f32; 3]) {
+    move |(noise, systematic, growth, sigma)| {
+        let mut out = [f32::NAN; 3];
+        let number = ours(noise, systematic, growth, *sigma, &mut out);
+        (number, out)
+    }
+}
+
+fn their_level((noise, systematic, growth, sigma): &Level, figure: fn(&CovarianceModel, f32) -> PositionCovariance) -> (u32, [f32; 3]) {
+    let ranged = noise.iter().all(|&x| within(1e6, x))
+        && systematic.iter().all(|x| x.is_finite())
+        && growth.iter().all(|&x| within(1000.0, x))
+        && (sigma.is_nan() || within(1000.0, *sigma));
+    let model = CovarianceModel { noise: of(*noise), systematic: of(*systematic), growth: *growth };
+    if ranged { (0, floats(figure(&model, *sigma))) } else { (12, [0.0; 3]) }
+}
+
+fn compare(run: &mut Run) {
+    let mut numbers: BTreeMap<(&str, u32), u64> = BTreeMap::new();
+    let mut met = |what, number| *numbers.entry((what, number)).or_default() += 1;
+
+    let mut random = run.random("at");
+    let places = repeat_with(|| {
+        let knots = Knots::any(&mut random);
+        let width = knots.width(&mut random);
+        (knots, width)
+    });
+    run.same(
+        "at",
+        places.take(run.size(500_000) as usize),
+        |(knots, width)| {
+            let mut out = [f32::NAN; 2];
+            let (w, known) = (width.unwrap_or(1.5), width.is_some());
+            let number = vuzgari_compare_at(&knots.widths, &knots.gains, &knots.residuals, knots.count, knots.floor, known, w, &mut out);
+            (number, out)
+        },
+        |(knots, width)| {
+            let number = knots.refusal();
+            met("at", number);
+            if number != 0 {
+                return (number, [0.0; 2]);
+            }
+            let (gain, residual) = knots.original(|model| model.at(*width));
+            (0, [gain, residual])
+        },
+    );
+
+    let mut random = run.random("model");
+    let estimates = repeat_with(|| {
+        let knots = Knots::any(&mut random);
+        let width = knots.width(&mut random);
+        let offset = [ranged(&mut random, 1000.0), ranged(&mut random, 1000.0)];
+        let grid = if random.below(16) == 0 { random.f32() } else { ranged(&mut random, 1000.0).abs() };
+        (knots, covariance(&mut random, 1e6), offset, width, grid)
+    });
+    let known: [Estimate; 1] = [(
+        Knots { widths: [1.0; 16], gains: [1e-20; 16], residuals: [0.0; 16], count: 1, floor: 0.0 },
+        [0.0; 3],
+        [1.0, 0.0],
+        None,
+        1.0,
+    )];
+    run.same("model", known.into_iter().chain(estimates.take(run.size(500_000) as usize)), ours_model, |estimate| {
+        let answer = their_model(estimate);
+        met("model", answer.0);
+        answer
+    });
+
+    for (what, ours, figure) in [
+        ("noise_at", vuzgari_compare_noise_at as extern "C" fn(&_, &_, &_, _, &mut _) -> _, CovarianceModel::noise_at as fn(&_, _) -> _),
+        ("total", vuzgari_compare_total, CovarianceModel::total),
+    ] {
+        let mut random = run.random(what);
+        let levels = repeat_with(|| {
+            let growth = [ranged(&mut random, 1000.0), ranged(&mut random, 1000.0)];
+            let limit = random.pick(&[1e6, 1.0, f32::MAX]);
+            (covariance(&mut random, 1e6), covariance(&mut random, limit), growth, sigma(&mut random))
+        });
+        run.same(what, levels.take(run.size(1_000_000) as usize), at_level(ours), |level| {
+            let answer = their_level(level, figure);
+            met(what, answer.0);
+            answer
+        });
+    }
+    for ((what, number), n) in numbers {
+        run.count(&format!("{what} answered {number}"), n);
+    }
+}
+
+fn speed() {
+    let mut random = Random::new(1);
+    let knots = Knots {
+        widths: std::array::from_fn(|k| k as f32),
+        gains: std::array::from_fn(|k| 1.0 / (1.0 + k as f32)),
+        residuals: [0.125; 16],
+        count: 16,
+        floor: 0.25,
+    };
+    let estimates: Vec<Estimate> =
+        (0..4096).map(|_| (knots.clone(), [1.0, 0.5, 1.0], [0.25, 0.5], Some(random.below(1600) as f32 / 100.0), 1.0)).collect();
+    knots.original(|model| {
+        beside("model, 16 knots", &estimates, |estimate| ours_model(estimate).1[3], |(_, noise, offset, width, grid)| {
+            model.model(of(*noise), *offset, *width, *grid).systematic.xx
+        })
+    });
+    let levels: Vec<Level> = (0..4096).map(|_| ([1.0, 0.5, 1.0], [1.0; 3], [0.0, 0.5], random.below(100) as f32 / 10.0)).collect();
+    beside("noise_at", &levels, |level| at_level(vuzgari_compare_noise_at)(level).1[0], |level| their_level(level, CovarianceModel::noise_at).1[0]);
+    beside("total", &levels, |level| at_level(vuzgari_compare_total)(level).1[0], |level| their_level(level, CovarianceModel::total).1[0]);
+}
