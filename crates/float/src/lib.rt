@@ -6,7 +6,7 @@ ghost use lib.Dec.{T};
 ghost use lib.Ieee as Ieee;
 ghost use lib.Ieee.{Float, nan, inf, fin, binary32, binary64};
 ghost use lib.Ieee.Nearest.{closest};
-ghost use Rattle.ieee.specs.Order.{larger, magnitude, totalLess};
+ghost use Rattle.ieee.specs.Order.{larger, smaller, magnitude, finite, totalLess};
 ghost use Rattle.ieee.specs.Floor.{floor};
 ghost use Rattle.ieee.specs.Convert.{convert};
 ghost use Rattle.ieee.specs.Sqrt.{sqrt, nearestRoot};
@@ -30,6 +30,24 @@ pub fn max64(a: f64, b: f64) -> f64
         return b;
     }
     if a < b { b } else { a }
+}
+
+// The smaller of the two.
+pub fn min32(a: f32, b: f32) -> f32
+    ensures { λ r. ⌜ r ≡ smaller a b ⌝ }
+{
+    if a != a {
+        return b;
+    }
+    if b < a { b } else { a }
+}
+
+// Whether x is a number and no infinity.
+pub fn is_finite32(x: f32) -> bool
+    ensures { λ r. ⌜ r ≡ finite x ⌝ }
+{
+    let top = 1.0 / 0.0;
+    -top < x && x < top
 }
 
 // The size of x.
@@ -216,6 +234,25 @@ pub fn total_less32(a: f32, b: f32) -> bool
     }
     if a == b {
         return f32::to_bits(a) >= 0x8000_0000 && f32::to_bits(b) < 0x8000_0000;
+    }
+    false
+}
+
+// Whether a is below b in the order of all floats.
+pub fn total_less64(a: f64, b: f64) -> bool
+    ensures { λ r. ⌜ r ≡ totalLess a b ⌝ }
+{
+    if a != a {
+        return false;
+    }
+    if b != b {
+        return true;
+    }
+    if a < b {
+        return true;
+    }
+    if a == b {
+        return f64::to_bits(a) >= 0x8000_0000_0000_0000 && f64::to_bits(b) < 0x8000_0000_0000_0000;
     }
     false
 }

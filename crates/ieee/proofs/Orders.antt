@@ -5,10 +5,9 @@ use Prim.Native.Nat.{ℕ, _+_, _≤_, _<_}
 use native.Mathlib.Nat.{le-add-right}
 use lib.Dec.{T, ltb, leb}
 use lib.Ieee.{Float, nan, inf, fin, Format, top, toBits, fits, isNan, ne, eq, lt}
-use lib.Ieee.Compare.{differs-from-itself}
 use borrow.Author.Tests.{lt-ltb, le-ltb, lt-leb, not-false, not-true}
 use Rattle.ieee.specs.Order.{negative, totalLess}
-use Rattle.ieee.proofs.Laws.{yes}
+use Rattle.ieee.proofs.Wraps.{is-nan, is-plain}
 use Rattle.ieee.proofs.Signs.{fin-low, fin-flip, inf-low, inf-high}
 
 -- the sign's bit is the sign
@@ -19,16 +18,6 @@ sign-test f (inf true) F N = le-ltb (toBits f (inf true)) (top f) (inf-high f)
 sign-test f (inf false) F N = lt-ltb (toBits f (inf false)) (top f) (inf-low f)
 sign-test f (fin true m e) F N = le-ltb (toBits f (fin true m e)) (top f) (rw (fin-flip f m e) (le-add-right (top f) (toBits f (fin false m e))))
 sign-test f (fin false m e) F N = lt-ltb (toBits f (fin false m e)) (top f) (fin-low f m e F)
-
-is-nan : (x : Float) → ne x x ≡ true → isNan x ≡ true
-unfolding isNan
-is-nan x h = rw (differs-from-itself x (yes h))
-
-pub is-plain : (x : Float) → ne x x ≡ false → isNan x ≡ false
-unfolding ne isNan
-is-plain nan h = absurd (true≢false h)
-is-plain (inf s) h = refl
-is-plain (fin s m e) h = refl
 
 module _ (a b : Float) where
   pub first-nan : ne a a ≡ true → false ≡ totalLess a b

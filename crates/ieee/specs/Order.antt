@@ -1,30 +1,36 @@
--- The larger of two floats, the size of one, and an order of all floats.
+-- The larger and the smaller of two floats, the size of one, which ones are finite, and an order of all floats.
 use mathlib.Core.Bool.{Bool, true, false, cond, not, _&&_, _||_}
 use lib.Ieee.{Float, nan, inf, fin, lt, eq, isNan}
 
--- Rust's f32::max: the other one where one is a NaN, and the second only where it is above the first
+-- Rust's f32::max and f64::max: the other one where one is a NaN, and the second only where it is above the first.
 unfoldable pub larger : Float → Float → Float
-larger nan b = b
-larger (inf s) nan = inf s
-larger (inf s) (inf t) = cond s (inf t) (inf s)
-larger (inf s) (fin t n d) = cond s (fin t n d) (inf s)
-larger (fin s m e) nan = fin s m e
-larger (fin s m e) (inf t) = cond t (fin s m e) (inf t)
-larger (fin s m e) (fin t n d) = cond (lt (fin s m e) (fin t n d)) (fin t n d) (fin s m e)
+unfolding isNan lt
+larger a b = cond (isNan a) b (cond (lt a b) b a)
 
--- the same number with the sign clear
+-- Rust's f32::min and f64::min: the other one where one is a NaN, and the second only where it is below the first.
+unfoldable pub smaller : Float → Float → Float
+unfolding isNan lt
+smaller a b = cond (isNan a) b (cond (lt b a) b a)
+
+-- The same number with the sign clear: IEEE 754-2019, section 5.5.1, abs.
 unfoldable pub magnitude : Float → Float
 magnitude nan = nan
 magnitude (inf s) = inf false
 magnitude (fin s m e) = fin false m e
 
+-- Whether x is a zero or another number, not an infinity or a NaN: section 5.7.2, isFinite.
+unfoldable pub finite : Float → Bool
+finite nan = false
+finite (inf s) = false
+finite (fin s m e) = true
+
+-- Whether the sign is set: section 5.7.2, isSignMinus, where the one NaN counts as positive.
 unfoldable pub negative : Float → Bool
 negative nan = false
 negative (inf s) = s
 negative (fin s m e) = s
 
--- An order of all floats: as `<` has it, -0 below +0, and a NaN above all others. Rust's total_cmp is Less, where a NaN counts as positive.
+-- x is before y in an order of all floats: as `<` has it, -0 before +0, and a NaN after all others. Rust's total_cmp is Less, where each NaN counts as the one positive NaN.
 unfoldable pub totalLess : Float → Float → Bool
 unfolding isNan lt eq negative
 totalLess x y = not (isNan x) && (isNan y || (lt x y || (eq x y && (negative x && not (negative y)))))
-

@@ -1,0 +1,3 @@
+-- Laws on little-endian bytes.
+pub mod Laws
+pub mod Loops

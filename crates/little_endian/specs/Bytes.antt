@@ -1,0 +1,23 @@
+-- Little-endian bytes: writing and reading, over their count.
+use Prim.Native.Nat.{ℕ, zero, suc, _+_, _*_, _/_, _%_, _<_}
+use mathlib.Core.List.{List, [], _∷_, _++_}
+use lib.ListN.{length, take, drop}
+
+-- the n low bytes of x, the lowest first
+unfoldable pub bytesOf : ℕ → ℕ → List ℕ
+bytesOf zero x = []
+bytesOf (suc n) x = x % 256 ∷ bytesOf n (x / 256)
+
+-- the number that bytes stand for, the lowest first
+unfoldable pub valueOf : List ℕ → ℕ
+valueOf [] = 0
+valueOf (b ∷ l) = b + 256 * valueOf l
+
+-- each element is a byte
+unfoldable pub Bytes : List ℕ → Type 0
+Bytes [] = Unit {0}
+Bytes (b ∷ l) = (b < 256) × Bytes l
+
+-- out with `new` laid over what stands from place `at` on
+abbrev pub laid : List ℕ → ℕ → List ℕ → List ℕ
+laid out at new = (take at out ++ new) ++ drop (at + length new) out

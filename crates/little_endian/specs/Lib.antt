@@ -1,0 +1,2 @@
+-- Whole numbers as bytes.
+pub mod Bytes

@@ -1,0 +1,9 @@
+-- Every starred reading of document 01 holds: each row is computed. Assumes nothing.
+use mathlib.Core.Path.{refl}
+use lib.Ieee.{ofInt, round}
+use Rattle.ieee.specs.Convert.{convert}
+use Rattle.readings.specs.Listing.{listing, AllHold}
+
+pub readings : AllHold listing
+unfolding ofInt round convert
+readings = (((refl, refl), (refl, refl)), (((refl, refl), (refl, refl)), tt))

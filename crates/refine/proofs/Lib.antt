@@ -1,0 +1,2 @@
+-- What the definitions say, read back.
+pub mod Laws

@@ -1,0 +1,91 @@
+-- A window of four rows of four pixels, and what is measured of it: document 01, "Window".
+use mathlib.Core.Path.{_≡_}
+use mathlib.Core.List.{List, [], _∷_}
+use Prim.Native.Nat.{ℕ, _+_, _*_, _≤_, _<_}
+use lib.ListN.{getD}
+use lib.IntN.{ℤ, pos, negℤ, _+ℤ_, _*ℤ_}
+use Rattle.window.specs.declared.WindowStats.{WindowStats}
+
+-- the pixel at each (x, y), x and y from 0 to 3
+abbrev pub Window : Type 0
+Window = ℕ → ℕ → ℤ
+
+-- a pixel is 0 to 255
+pub record Pixel (z : ℤ) : Type 0 where
+  pub byte : ℕ
+  pub is : z ≡ pos byte
+  pub low : byte ≤ 255
+
+abbrev pub Pixels : Window → Type 0
+Pixels p = (x y : ℕ) → x < 4 → y < 4 → Pixel (p x y)
+
+-- ---- the figures
+
+abbrev minus : ℕ → ℤ
+minus n = negℤ (pos n)
+
+-- P0, P1, P2 and P3
+abbrev pub weights : List (List ℤ)
+weights =
+    (pos 1 ∷ pos 1 ∷ pos 1 ∷ pos 1 ∷ [])
+    ∷ (minus 3 ∷ minus 1 ∷ pos 1 ∷ pos 3 ∷ [])
+    ∷ (pos 1 ∷ minus 1 ∷ minus 1 ∷ pos 1 ∷ [])
+    ∷ (pos 1 ∷ minus 3 ∷ pos 3 ∷ minus 1 ∷ [])
+    ∷ []
+
+-- Pi at x
+abbrev pub P : ℕ → ℕ → ℤ
+P i x = getD (getD weights i []) x (pos 0)
+
+abbrev pub sum4 : (ℕ → ℤ) → ℤ
+sum4 f = f 0 +ℤ f 1 +ℤ f 2 +ℤ f 3
+
+-- component (i, j): the sum of pixel × Pi at x × Pj at y
+abbrev pub component : Window → ℕ → ℕ → ℤ
+component p i j = sum4 (λ y. sum4 (λ x. p x y *ℤ P i x *ℤ P j y))
+
+abbrev pub sq : ℤ → ℤ
+sq z = z *ℤ z
+
+-- a weight, and the (i, j) that it is for
+pub record Term : Type 0 where
+  pub weight : ℕ
+  pub i : ℕ
+  pub j : ℕ
+
+-- the sum of weight × c (i, j)²
+abbrev pub weighted : List Term → (ℕ → ℕ → ℤ) → ℤ
+weighted [] c = pos 0
+weighted (t ∷ ts) c = pos (t .weight) *ℤ sq (c (t .i) (t .j)) +ℤ weighted ts c
+
+abbrev pub term : ℕ → ℕ → ℕ → Term
+term w i j = record { weight = w; i = i; j = j }
+
+abbrev pub gateTerms : List Term
+gateTerms =
+    term 5 1 2
+    ∷ term 5 2 1
+    ∷ term 5 2 3
+    ∷ term 5 3 2
+    ∷ term 5 3 0
+    ∷ term 5 0 3
+    ∷ term 25 2 2
+    ∷ term 1 1 3
+    ∷ term 1 3 1
+    ∷ []
+
+unfoldable pub gate : Window → ℤ
+gate p = weighted gateTerms (component p)
+
+unfoldable pub statsOf : Window → WindowStats
+statsOf p = record { sum = component p 0 0; gate = gate p; op = component p 3 3 }
+
+-- ---- where the pixels stand
+
+-- in four rows of four
+abbrev pub pixel : List (List ℤ) → Window
+pixel m x y = getD (getD m y []) x (pos 0)
+
+-- in an image whose rows are w apart, from the place `at` on
+abbrev pub pixelsAt : List ℕ → ℕ → ℕ → Window
+pixelsAt img w at x y = pos (getD img (at + y * w + x) 0)

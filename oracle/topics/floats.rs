@@ -1,0 +1,146 @@
+//! The float helpers beside the hardware's own operations: all special values and all pairs of them, then seeded inputs.
+
+use super::{random::*, Run, Topic, Value};
+use std::{hint::black_box, iter::repeat_with, time::Instant};
+
+pub const TOPIC: Topic = Topic { name: "floats", gate: true, compare, store: None, speed: Some(speed) };
+
+unsafe extern "C" {
+    pub safe fn vuzgari_compare_sqrt32(x: f32) -> f32;
+    safe fn vuzgari_compare_sqrt64(x: f64) -> f64;
+    safe fn vuzgari_compare_to_f32(x: f64) -> f32;
+    pub safe fn vuzgari_compare_floor32(x: f32) -> f32;
+    safe fn vuzgari_compare_abs64(x: f64) -> f64;
+    pub safe fn vuzgari_compare_is_finite32(x: f32) -> bool;
+    safe fn vuzgari_compare_max32(a: f32, b: f32) -> f32;
+    safe fn vuzgari_compare_max64(a: f64, b: f64) -> f64;
+    safe fn vuzgari_compare_min32(a: f32, b: f32) -> f32;
+    safe fn vuzgari_compare_total_less32(a: f32, b: f32) -> bool;
+    safe fn vuzgari_compare_total_less64(a: f64, b: f64) -> bool;
+}
+
+/// Inputs of each kind in the gate.
+const GATE: u64 = 4_000_000;
+
+fn compare(run: &mut Run) {
+    one(run, "sqrt32", &specials32(), Random::f32, vuzgari_compare_sqrt32, f32::sqrt);
+    one(run, "sqrt64", &specials64(), Random::f64, vuzgari_compare_sqrt64, f64::sqrt);
+    one(run, "to_f32", &specials64(), Random::f64, vuzgari_compare_to_f32, |x| x as f32);
+    one(run, "floor32", &specials32(), Random::f32, vuzgari_compare_floor32, f32::floor);
+    one(run, "abs64", &specials64(), Random::f64, vuzgari_compare_abs64, f64::abs);
+    one(run, "is_finite32", &specials32(), Random::f32, vuzgari_compare_is_finite32, f32::is_finite);
+    extreme(run, "max32", &specials32(), Random::f32, vuzgari_compare_max32, f32::max);
+    extreme(run, "max64", &specials64(), Random::f64, vuzgari_compare_max64, f64::max);
+    extreme(run, "min32", &specials32(), Random::f32, vuzgari_compare_min32, f32::min);
+    order(run, "total_less32", &specials32(), Random::f32, vuzgari_compare_total_less32, |a, b| a.total_cmp(&b).is_lt(), f32::NAN);
+    order(run, "total_less64", &specials64(), Random::f64, vuzgari_compare_total_less64, |a, b| a.total_cmp(&b).is_lt(), f64::NAN);
+}
+
+/// A helper of one argument.
+fn one<A: Value + Copy, R: Value>(
+    run: &mut Run,
+    what: &str,
+    specials: &[A],
+    input: fn(&mut Random) -> A,
+    ours: extern "C" fn(A) -> R,
+    theirs: fn(A) -> R,
+) {
+    let mut random = run.random(what);
+    let seeded = repeat_with(|| input(&mut random)).take(run.size(GATE) as usize);
+    run.same(what, specials.iter().copied().chain(seeded), |&x| ours(x), |&x| theirs(x));
+}
+
+/// A helper of two arguments.
+fn two<A: Value + Copy, R: Value>(
+    run: &mut Run,
+    what: &str,
+    specials: &[A],
+    input: fn(&mut Random) -> A,
+    ours: impl FnMut(&(A, A)) -> R,
+    theirs: impl FnMut(&(A, A)) -> R,
+) {
+    let mut random = run.random(what);
+    let pairs = specials.iter().flat_map(|&a| specials.iter().map(move |&b| (a, b)));
+    let seeded = repeat_with(|| (input(&mut random), input(&mut random))).take(run.size(GATE) as usize);
+    run.same(what, pairs.chain(seeded), ours, theirs);
+}
+
+/// A maximum or minimum. Rust leaves open which of two zeros it answers: any zero is right there, and those of the other sign
+/// than the hardware's are counted.
+fn extreme<A: Value + Copy + PartialEq + Default>(
+    run: &mut Run,
+    what: &str,
+    specials: &[A],
+    input: fn(&mut Random) -> A,
+    ours: extern "C" fn(A, A) -> A,
+    theirs: fn(A, A) -> A,
+) {
+    let zero = A::default();
+    let (mut zeros, mut signs) = (0, 0);
+    let apart = |&(a, b): &(A, A)| {
+        let (got, want) = (ours(a, b), theirs(a, b));
+        if a != zero || b != zero || got != zero {
+            return got;
+        }
+        zeros += 1;
+        signs += u64::from(!got.same(&want));
+        want
+    };
+    two(run, what, specials, input, apart, |&(a, b)| theirs(a, b));
+    run.count(&format!("{what} of two zeros"), zeros);
+    run.count(&format!("{what} of two zeros, of the other sign"), signs);
+}
+
+/// `total_cmp`'s Less, with each NaN read as the one that Rattle has; pairs for which Rust's answer hangs on which NaN it is are
+/// counted.
+fn order<A: Value + Copy + PartialEq>(
+    run: &mut Run,
+    what: &str,
+    specials: &[A],
+    input: fn(&mut Random) -> A,
+    ours: extern "C" fn(A, A) -> bool,
+    theirs: fn(A, A) -> bool,
+    nan: A,
+) {
+    let plain = |x: A| if x == x { x } else { nan };
+    let mut apart = 0;
+    let read = |&(a, b): &(A, A)| {
+        let want = theirs(plain(a), plain(b));
+        apart += u64::from(want != theirs(a, b));
+        want
+    };
+    two(run, what, specials, input, |&(a, b)| ours(a, b), read);
+    run.count(&format!("{what} that hang on which NaN it is"), apart);
+}
+
+/// Nanoseconds for a call, of independent calls one after the other, ours and the hardware's in turns; the median of the turns.
+fn speed() {
+    let mut random = Random::new(1);
+    let doubles: Vec<f64> = repeat_with(|| random.below(1 << 32) as f64 / 3.0).take(4096).collect();
+    let singles: Vec<f32> = doubles.iter().map(|&x| x as f32).collect();
+    beside("sqrt32", &singles, vuzgari_compare_sqrt32, f32::sqrt);
+    beside("floor32", &singles, vuzgari_compare_floor32, f32::floor);
+    beside("sqrt64", &doubles, vuzgari_compare_sqrt64, f64::sqrt);
+    beside("to_f32", &doubles, vuzgari_compare_to_f32, |x| x as f32);
+}
+
+fn beside<A: Copy, R>(what: &str, inputs: &[A], ours: extern "C" fn(A) -> R, theirs: impl Fn(A) -> R) {
+    let mut times = [vec![], vec![]];
+    for _ in 0..101 {
+        times[0].push(time(inputs, |x| ours(x)));
+        times[1].push(time(inputs, &theirs));
+    }
+    let [ours, theirs] = times.map(|mut turns| {
+        turns.sort_by(f64::total_cmp);
+        turns[turns.len() / 2]
+    });
+    println!("{what}: {ours:.2} ns a call, the hardware's {theirs:.2}");
+}
+
+fn time<A: Copy, R>(inputs: &[A], call: impl Fn(A) -> R) -> f64 {
+    let began = Instant::now();
+    for &input in inputs {
+        black_box(call(black_box(input)));
+    }
+    began.elapsed().as_secs_f64() * 1e9 / inputs.len() as f64
+}

@@ -1,0 +1,15 @@
+//! The float helpers of one f32, on every pattern. Too long for the gate.
+
+use super::{floats::*, Run, Topic, Value};
+
+pub const TOPIC: Topic = Topic { name: "patterns", gate: false, compare, store: None, speed: None };
+
+fn compare(run: &mut Run) {
+    every(run, "sqrt32", vuzgari_compare_sqrt32, f32::sqrt);
+    every(run, "floor32", vuzgari_compare_floor32, f32::floor);
+    every(run, "is_finite32", vuzgari_compare_is_finite32, f32::is_finite);
+}
+
+fn every<R: Value>(run: &mut Run, what: &str, ours: extern "C" fn(f32) -> R, theirs: fn(f32) -> R) {
+    run.same(what, (0..=u32::MAX).map(f32::from_bits), |&x| ours(x), |&x| theirs(x));
+}

@@ -1,0 +1,90 @@
+//! Arguments and results: when two are the same, and how they are printed.
+
+pub trait Value {
+    fn same(&self, other: &Self) -> bool;
+    fn shown(&self) -> String;
+}
+
+macro_rules! floats {
+    ($($float:ty),*) => {$(
+        /// The same bits, where all NaNs count as one.
+        impl Value for $float {
+            fn same(&self, other: &Self) -> bool {
+                self.to_bits() == other.to_bits() || self.is_nan() && other.is_nan()
+            }
+            fn shown(&self) -> String {
+                format!("{:0width$x}", self.to_bits(), width = 2 * size_of::<$float>())
+            }
+        }
+    )*};
+}
+floats!(f32, f64);
+
+macro_rules! plain {
+    ($($plain:ty),*) => {$(
+        impl Value for $plain {
+            fn same(&self, other: &Self) -> bool {
+                self == other
+            }
+            fn shown(&self) -> String {
+                self.to_string()
+            }
+        }
+    )*};
+}
+plain!(bool, u8, u32, i32, u64, i64, usize, String);
+
+macro_rules! tuples {
+    ($(($($name:ident $at:tt),*))*) => {$(
+        impl<$($name: Value),*> Value for ($($name,)*) {
+            fn same(&self, other: &Self) -> bool {
+                $(self.$at.same(&other.$at))&&*
+            }
+            fn shown(&self) -> String {
+                [$(self.$at.shown()),*].join(", ")
+            }
+        }
+    )*};
+}
+tuples!((A 0, B 1) (A 0, B 1, C 2) (A 0, B 1, C 2, D 3) (A 0, B 1, C 2, D 3, E 4));
+
+impl<T: Value> Value for [T] {
+    fn same(&self, other: &Self) -> bool {
+        self.len() == other.len() && self.iter().zip(other).all(|(a, b)| a.same(b))
+    }
+    fn shown(&self) -> String {
+        let items: Vec<String> = self.iter().map(Value::shown).collect();
+        format!("[{}]", items.join(", "))
+    }
+}
+
+impl<T: Value, const N: usize> Value for [T; N] {
+    fn same(&self, other: &Self) -> bool {
+        self[..].same(&other[..])
+    }
+    fn shown(&self) -> String {
+        self[..].shown()
+    }
+}
+
+impl<T: Value> Value for Vec<T> {
+    fn same(&self, other: &Self) -> bool {
+        self[..].same(&other[..])
+    }
+    fn shown(&self) -> String {
+        self[..].shown()
+    }
+}
+
+impl<T: Value> Value for Option<T> {
+    fn same(&self, other: &Self) -> bool {
+        match (self, other) {
+            (Some(a), Some(b)) => a.same(b),
+            (None, None) => true,
+            _ => false,
+        }
+    }
+    fn shown(&self) -> String {
+        self.as_ref().map_or("none".to_string(), Value::shown)
+    }
+}
