@@ -1,0 +1,68 @@
+// The tile of pixels about a corner and the width of the edges on it: uncertainty.rs, `PixelTile`.
+ghost use mathlib.Core.Path.{_≡_};
+ghost use Prim.Native.Nat.{ℕ, _+_, _*_, _≤_, _<_};
+ghost use mathlib.Core.List.{map};
+ghost use lib.Dec.{T};
+ghost use lib.ListN.{length, getD};
+ghost use lib.IntN.{pos, natAbs};
+ghost use lib.Ieee.{Float, nan, le};
+ghost use Rattle.ieee.specs.Sqrt as Sqrt;
+ghost use Rattle.tile.specs.Kept.{kept};
+ghost use Rattle.tile.specs.Tile as Tile;
+ghost use Rattle.tile.specs.Tile.{inRows, read};
+ghost use Rattle.tile.specs.Smoothing as Smoothing;
+ghost use Rattle.tile.specs.Smoothing.{smoothed};
+ghost use Rattle.tile.specs.Disk.{disk};
+ghost use Rattle.tile.specs.Gradients as Gradients;
+ghost use Rattle.tile.specs.Levels as Levels;
+ghost use Rattle.tile.specs.Width.{answer, edgeOf};
+ghost use Rattle.tile.specs.Whole.{Upto};
+
+// The places of the disk in rows of 17: dx² + dy² ≤ 25, rows first.
+const EDGE_DISK: [u8; 81] = [
+    23, 37, 38, 39, 40, 41, 42, 43, 53, 54, 55, 56, 57, 58, 59, 60, 61, 70, 71, 72, 73, 74, 75, 76, 77, 78, 87, 88, 89, 90, 91, 92, 93, 94, 95, 103, 104, 105, 106, 107, 108, 109, 110, 111, 112, 113, 121, 122, 123, 124, 125, 126, 127, 128, 129, 138, 139, 140, 141, 142, 143, 144, 145, 146, 155, 156, 157, 158, 159, 160, 161, 162, 163, 173, 174, 175, 176, 177, 178, 179, 193,
+];
+
+// A width, or document 01's number.
+pub enum EdgeWidth {
+    Width(f32),
+    Refused(u32),
+}
+
+// 17 rows of 17 samples.
+pub struct PixelTile {
+    pub samples: [f32; 289],
+}
+
+// 1, 4, 6, 4, 1 over five values.
+fn binomial(a: f32, b: f32, c: f32, d: f32, e: f32) -> f32
+    ensures { λ r. ⌜ r ≡ Smoothing.binomial a b c d e ⌝ }
+{
+    (a + e) + 4.0 * (b + d) + 6.0 * c
+}
+
+// Down the columns: 13 rows of 17.
+fn down(tile: &[f32; 289]) -> [f32; 221]
+    ensures { λ r. ⌜ r ≡ inRows (Smoothing.down (read (now (tile .entry)))) 221 ⌝ }
+{
+    let mut out = [0.0f32; 221];
+    let mut k = 0;
+    while k < 221 {
+        out[k] = binomial(tile[k], tile[k + 17], tile[k + 34], tile[k + 51], tile[k + 68]);
+        k += 1;
+    }
+    out
+}
+
+// Across the rows: 13 rows, of which the first 13 columns are whole.
+fn across(rows: &[f32; 221]) -> [f32; 217]
+    ensures { λ r. ⌜ r ≡ inRows (Smoothing.across (read (now (rows .entry)))) 217 ⌝ }
+{
+    let mut out = [0.0f32; 217];
+    let mut k = 0;
+    while k < 217 {
+        out[k] = binomial(rows[k], rows[k + 1], rows[k + 2], rows[k + 3], rows[k + 4]);
+        k += 1;
+    }
+    out
+}
