@@ -1,5 +1,6 @@
 pub mod Whole
 pub mod Kept
+pub mod Clear
 pub mod Tile
 pub mod Smoothing
 pub mod Disk
