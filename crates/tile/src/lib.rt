@@ -4,7 +4,7 @@ ghost use Prim.Native.Nat.{ℕ, _+_, _*_, _≤_, _<_, max};
 ghost use mathlib.Core.List.{map};
 ghost use lib.Dec.{T};
 ghost use lib.ListN.{length, getD, drop};
-ghost use lib.IntN.{pos, natAbs};
+ghost use lib.IntN.{pos, natAbs, _+ℤ_, _-ℤ_};
 ghost use lib.Ieee.{Float, nan, binary32, sub, div, le};
 ghost use Rattle.ieee.specs.Sqrt.{sqrt};
 ghost use Rattle.quantile.specs.Rising.{inserted};
@@ -259,7 +259,33 @@ fn steepness(gradients: &[f32; 81]) -> f32
     0.5 * add_roots(&top) / 8.0
 }
 
+// Place i of a row or a column about c.
+fn near(c: i32, i: usize) -> i32
+    requires { ⌜ (natAbs c ≤ 1000000) × (i < 17) ⌝ }
+    ensures { λ r. ⌜ r ≡ c +ℤ (pos i -ℤ pos 8) ⌝ }
+{
+    c + (i as i32 - 8)
+}
+
 impl PixelTile {
+    // The samples about the centre.
+    pub fn load(pixels: &[u8], width: usize, height: usize, origin: [i32; 2], centre: [i32; 2]) -> Self
+        requires { ⌜ (length (now pixels) ≡ width * height) × (natAbs (getD centre 0 (pos 0)) ≤ 1000000) × (natAbs (getD centre 1 (pos 0)) ≤ 1000000) ⌝ }
+        ensures { λ r. ⌜ r .samples ≡ inRows (tile (now (pixels .entry)) width height origin centre) 289 ⌝ }
+    {
+        let cx = centre[0];
+        let cy = centre[1];
+        let mut samples = [0.0f32; 289];
+        let mut k = 0;
+        while k < 289 {
+            let x = near(cx, k % 17);
+            let y = near(cy, k / 17);
+            samples[k] = imageview::sample_at(pixels, width, height, origin, x, y);
+            k += 1;
+        }
+        Self { samples }
+    }
+
     // The width of the edges on the tile's disk, or 9.
     pub fn edge_width(self) -> EdgeWidth
         requires { ⌜ ((k : ℕ) → k < 289 → Upto 255 (getD (self .samples) k nan)) ⌝ }
