@@ -5,7 +5,7 @@ ghost use lib.ListN.{length};
 ghost use lib.IntN.{pos, _+ℤ_};
 ghost use mathlib.Core.List.{[], _∷_};
 ghost use Rattle.imageview.specs.Sample.{clamped, sample};
-ghost use Rattle.imageview.specs.Limits.{imageNumber, far as isFar};
+ghost use Rattle.imageview.specs.Limits.{imageNumber, farPlace, far as isFar};
 
 // 1 or 2 where document 01 refuses an image of these sides and pixels, else 0.
 pub fn judge(pixels: &[u8], width: usize, height: usize) -> u32
@@ -31,6 +31,16 @@ pub fn far(v: i32) -> bool
         return true;
     }
     v > 1_000_000
+}
+
+// Whether a part of a place is beyond ±1,000,000.
+pub fn far_place(place: [i32; 2]) -> bool
+    ensures { λ r. ⌜ r ≡ farPlace place ⌝ }
+{
+    if far(place[0]) {
+        return true;
+    }
+    far(place[1])
 }
 
 // The whole number of 0 to most that is nearest to v + o.
