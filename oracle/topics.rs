@@ -2,8 +2,9 @@
 
 use crate::{random, value::Value, Run, Topic};
 
+mod edge;
 mod floats;
 mod known;
 mod patterns;
 
-pub const ALL: &[Topic] = &[known::TOPIC, floats::TOPIC, patterns::TOPIC];
+pub const ALL: &[Topic] = &[known::TOPIC, floats::TOPIC, edge::TOPIC, patterns::TOPIC];

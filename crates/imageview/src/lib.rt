@@ -56,7 +56,14 @@ fn place(v: i32, o: i32, most: usize) -> usize
 }
 
 // The sample at (x, y), on the slice and numbers.
-pub fn sample_at(pixels: &[u8], width: usize, height: usize, origin: [i32; 2], x: i32, y: i32) -> f32
+pub fn sample_at(
+    pixels: &[u8],
+    width: usize,
+    height: usize,
+    origin: [i32; 2],
+    x: i32,
+    y: i32,
+) -> f32
     requires { ⌜ length (now pixels) ≡ width * height ⌝ }
     ensures { λ r. ⌜ r ≡ sample (now (pixels .entry)) width height origin x y ⌝ }
 {

@@ -39,10 +39,13 @@ small-column a b c d ha hb hc hd = (one 0 tt, (one 1 tt, (one 2 tt, (one 3 tt, t
   where
     ρ : List ℤ
     ρ = a ∷ b ∷ c ∷ d ∷ []
+
     β : List ℕ
     β = 255 ∷ 255 ∷ 255 ∷ 255 ∷ []
+
     e : ℕ → Ex
     e i = polyE i (v 0) (v 1) (v 2) (v 3)
+
     one : (i : ℕ) → T (leb (bnd β (e i)) 4080) → Small 4080 (eval ρ (e i))
     one i t = record { small = under ρ β (ha, (hb, (hc, (hd, tt)))) (e i) 4080 t }
 
@@ -153,9 +156,25 @@ module _ (m c : List (List ℤ)) (e : Pixels (pixel m)) (r : c ≡ passes m) whe
   weighed-fits : natAbs weighed ≤ 1048723200
   weighed-fits =
       under (of c 1 2 ∷ of c 2 1 ∷ of c 2 3 ∷ of c 3 2 ∷ of c 3 0 ∷ of c 0 3 ∷ of c 2 2 ∷ of c 1 3 ∷ of c 3 1 ∷ [])
-      (4080 ∷ 4080 ∷ 4080 ∷ 4080 ∷ 4080 ∷ 4080 ∷ 4080 ∷ 8160 ∷ 8160 ∷ [])
-      (small g12 .small, (small g21 .small, (small g23 .small, (small g32 .small, (small g30 .small, (small g03 .small,
-      (small g22 .small, (small g13 .small, (small g31 .small, tt)))))))))
+      (4080 ∷ 4080 ∷ 4080 ∷ 4080 ∷ 4080 ∷ 4080 ∷ 4080 ∷ 8160 ∷ 8160 ∷ []) (
+        small g12 .small,
+        (
+          small g21 .small,
+          (
+            small g23 .small,
+            (
+              small g32 .small,
+              (
+                small g30 .small,
+                (
+                  small g03 .small,
+                  (small g22 .small, (small g13 .small, (small g31 .small, tt))),
+                ),
+              ),
+            ),
+          ),
+        ),
+      )
       (k (pos 5) ⊗ (s 0 ⊕ s 1 ⊕ s 2 ⊕ s 3 ⊕ s 4 ⊕ s 5) ⊕ k (pos 25) ⊗ s 6 ⊕ s 7 ⊕ s 8) 1048723200 tt
     where
       s : ℕ → Ex

@@ -68,11 +68,16 @@ index-2-poly4-4 : tie.Need-index-2-poly4-4
 index-2-poly4-4 c = omega arith
 
 poly4-requires : tie.Need-poly4-requires
-poly4-requires c κs =
-    (still (c .before .before .before .poly4-arg .given) (low 0 c),
-    (still (c .before .before .poly4-arg2 .given) (low 1 c),
-    (still (c .before .poly4-arg3 .given) (low 2 c),
-    (still (c .poly4-arg4 .given) (low 3 c), tt))))
+poly4-requires c κs = (
+  still (c .before .before .before .poly4-arg .given) (low 0 c),
+  (
+    still (c .before .before .poly4-arg2 .given) (low 1 c),
+    (
+      still (c .before .poly4-arg3 .given) (low 2 c),
+      (still (c .poly4-arg4 .given) (low 3 c), tt),
+    ),
+  ),
+)
 
 returns : tie.Need-returns
 returns c =
@@ -80,7 +85,7 @@ returns c =
     let x = c .before .before .before .before .before .args .x in
     c .poly4 .ensures
     ∙ same (pixel m x 0) (pixel m x 1) (pixel m x 2) (pixel m x 3) (c .before .before .before .before .poly4-arg .given) (c .before .before .before .poly4-arg2 .given)
-      (c .before .before .poly4-arg3 .given) (c .before .poly4-arg4 .given)
+    (c .before .before .poly4-arg3 .given) (c .before .poly4-arg4 .given)
 
 pub poly4-column-spec : {M : Type 1} → statement M
 poly4-column-spec =

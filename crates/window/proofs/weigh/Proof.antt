@@ -18,9 +18,22 @@ abbrev ρ : tie.Start → List ℤ
 in-range : (c : tie.Start) → Within (ρ c) β
 in-range c =
     let b = c .pre .0 in
-    let d = c .pre .1 in
-    (b .0 .small, (b .1 .0 .small, (b .1 .1 .0 .small, (b .1 .1 .1 .0 .small, (b .1 .1 .1 .1 .0 .small,
-    (b .1 .1 .1 .1 .1 .0 .small, (b .1 .1 .1 .1 .1 .1 .0 .small, (d .0 .small, (d .1 .0 .small, tt)))))))))
+    let d = c .pre .1 in (
+      b .0 .small,
+      (
+        b .1 .0 .small,
+        (
+          b .1 .1 .0 .small,
+          (
+            b .1 .1 .1 .0 .small,
+            (
+              b .1 .1 .1 .1 .0 .small,
+              (b .1 .1 .1 .1 .1 .0 .small, (b .1 .1 .1 .1 .1 .1 .0 .small, (d .0 .small, (d .1 .0 .small, tt)))),
+            ),
+          ),
+        ),
+      ),
+    )
 
 abbrev s : ℕ → Ex
 s n = v n ⊗ v n

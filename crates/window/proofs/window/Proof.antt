@@ -75,21 +75,26 @@ window-stats-requires c κs =
     let l = now (s .before .args .img) in
     let g = s .shared-slice-known .given in
     let a = s .before .args .at in
-    let w = s .before .args .w in
-    (row-pixels l g a (c .before .before .before .row .result) (c .before .before .before .row .ensures),
-    (row-pixels l g (a + w) (c .before .before .row2 .result) (c .before .before .row2 .ensures),
-    (row-pixels l g (a + 2 * w) (c .before .row3 .result) (c .before .row3 .ensures),
-    (row-pixels l g (a + 3 * w) (c .row4 .result) (c .row4 .ensures), tt))))
+    let w = s .before .args .w in (
+      row-pixels l g a (c .before .before .before .row .result) (c .before .before .before .row .ensures),
+      (
+        row-pixels l g (a + w) (c .before .before .row2 .result) (c .before .before .row2 .ensures),
+        (
+          row-pixels l g (a + 2 * w) (c .before .row3 .result) (c .before .row3 .ensures),
+          (row-pixels l g (a + 3 * w) (c .row4 .result) (c .row4 .ensures), tt),
+        ),
+      ),
+    )
 
 returns : tie.Need-returns
 returns c =
     let s = c .before .before .before .before .before .before in
     c .window-stats .ensures
     ∙ ap (λ (m : List (List ℤ)). statsOf (pixel m))
-      (four (c .before .before .before .before .row .ensures) (c .before .before .before .row2 .ensures) (c .before .before .row3 .ensures)
-      (c .before .row4 .ensures))
+    (four (c .before .before .before .before .row .ensures) (c .before .before .before .row2 .ensures) (c .before .before .row3 .ensures)
+    (c .before .row4 .ensures))
     ∙ stats-same (pixel (rowsAt (now (s .args .img)) (s .args .w) (s .args .at))) (pixelsAt (now (s .args .img)) (s .args .w) (s .args .at))
-      (place (now (s .args .img)) (s .args .w) (s .args .at))
+    (place (now (s .args .img)) (s .args .w) (s .args .at))
 
 pub window-spec : {M : Type 1} → statement M
 window-spec =
