@@ -9,7 +9,8 @@ use lib.Count.{leadingZeros, leading-top}
 use lib.Ieee.{Float, nan, inf, fin, binary64, ofBits, up, down}
 use lib.Ieee.Exact.{HasValue}
 use Rattle.float.specs.Scaled.{IsScaled}
-use Rattle.ieee.proofs.Laws.{pow-lt-back}
+use Rattle.ieee.proofs.Naturals.{pow-lt-back}
+use Rattle.ieee.proofs.Values.{rescale}
 use Rattle.ieee.proofs.Reading.{read-low, read-high}
 
 pub scale-value : (x : Float) (s : Bool) (a c k : ℕ) → HasValue x s a c → HasValue x s (a * k) (c * k)

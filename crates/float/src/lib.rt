@@ -146,6 +146,39 @@ fn root(m: u64, n: u64) -> u64
     if over > q { q + 1 } else { q }
 }
 
+// 24 digits of about the square root of the number with the pattern b. `root24` tests them, so
+// nothing else is said of them. The pattern's half, turned over, is about that of 1 / sqrt(x), and
+// each step doubles the digits that are right.
+fn guess(b: u64) -> u64
+    requires { ⌜ b < 0x7ff0_0000_0000_0000 ⌝ }
+    ensures { λ r. ⌜ (2 ^ 23 ≤ r) × (r ≤ 2 ^ 24) ⌝ }
+{
+    let x = f64::from_bits(b);
+    let h = x * 0.5;
+    let y0 = f64::from_bits(0x5fe6_eb50_c7b5_37a9 - b / 2);
+    let y1 = y0 * (1.5 - h * y0 * y0);
+    let y2 = y1 * (1.5 - h * y1 * y1);
+    let y3 = y2 * (1.5 - h * y2 * y2);
+    let g = x * y3;
+    if g != g {
+        return 0x80_0000;
+    }
+    0x80_0000 + (f64::to_bits(g) % 0x10_0000_0000_0000 + 0x1000_0000) / 0x2000_0000
+}
+
+// As root(m, 24), from a guess q at it: q is the nearest where q * q - q < N <= q * q + q.
+fn root24(m: u64, q: u64) -> u64
+    requires { ⌜ (m < 2 ^ 54) × (m * 4 ^ 24 % 2 ^ 54 ≡ 0) × (2 ^ 23 ≤ q) × (q ≤ 2 ^ 24) ⌝ }
+    ensures { λ r. ⌜ r ≡ nearestRoot (m * 4 ^ 24 / 2 ^ 54) ⌝ }
+{
+    let n = m / 64;
+    let s = q * q;
+    if s - q < n && n <= s + q {
+        return q;
+    }
+    root(m, 24)
+}
+
 // digits * 2 ^ e, of 2 ^ -1126.
 struct Parts {
     digits: u64,
@@ -216,7 +249,7 @@ pub fn sqrt32(x: f32) -> f32
     let v = scaled(b);
     let h = v.e / 2;
     let m = if v.e % 2 == 1 { v.digits * 2 } else { v.digits };
-    f32::from_bits(((h - 411) * 0x80_0000 + root(m, 24)) as u32)
+    f32::from_bits(((h - 411) * 0x80_0000 + root24(m, guess(b))) as u32)
 }
 
 // Whether a is below b in the order of all floats.

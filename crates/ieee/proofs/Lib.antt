@@ -1,13 +1,28 @@
--- Laws of the formats and of those definitions.
-pub mod Laws
-pub mod Wraps
-pub mod Reading
-pub mod Narrowing
-pub mod Signs
+-- The definitions are the standard's and Rust's.
+pub mod RoundsToEven
+pub mod ConvertFormat
+pub mod SquareRoot
+pub mod TowardNegative
+pub mod TotalOrder
+pub mod MaxMin
+pub mod Classes
+-- What these rest on.
+pub mod Naturals
 pub mod Roots
-pub mod Sqrts
-pub mod Above
-pub mod Short
-pub mod Closeness
-pub mod Orders
-pub mod Floors
+pub mod Values
+pub mod Units
+pub mod Patterns
+pub mod Grid
+pub mod ExactSizes
+pub mod Distance
+pub mod Comparing
+pub mod Cuts
+-- What proofs of code cite, besides.
+pub mod Tests
+pub mod Reading
+pub mod Arms
+pub mod AboveZero
+pub mod Narrowing
+pub mod SqrtPatterns
+pub mod Widened
+pub mod FloorPatterns

@@ -1,22 +1,26 @@
--- The pattern of a narrowed f64, from its digits. Assumes nothing.
+-- `convert binary32` of an f64, as patterns: what to_f32 makes of the 53 digits and the exponent's field (`narrow-over`, `narrow-mid`, `narrow-low`, `narrow-none`), and of the sign.
 use mathlib.Core.Path.{_≡_, refl, sym, ap, _∙_, subst}
 use mathlib.Core.Logic.{_⊎_, inl, inr}
-use mathlib.Core.Bool.{Bool, true, false, not, cond}
-use Prim.Native.Nat.{ℕ, zero, suc, _+_, _-_, _*_, _/_, _%_, _^_, _≤_, _<_, min, compare}
-use native.Mathlib.Nat.{le-trans, le-of-eq, lt-of-lt-of-le, lt-of-le-of-lt, mul-assoc, mul-comm, mul-left-comm, mul-pos, mul-le-mul-right, mul-le-mul-left, div-lt-iff-lt-mul, le-div-iff-mul-le, div-eq-of-lt, mod-eq-of-lt, eq-zero-or-pos, eq-or-lt-of-le, pow-succ'}
+use mathlib.Core.Bool.{Bool, true, false, not}
+use Prim.Native.Nat.{ℕ, suc, _+_, _-_, _*_, _/_, _%_, _^_, _≤_, _<_, min, compare}
+use native.Mathlib.Nat.{le-trans, le-of-eq, lt-of-lt-of-le, mul-assoc, mul-comm, mul-left-comm, mul-pos, mul-le-mul-right, div-lt-iff-lt-mul, le-div-iff-mul-le, div-eq-of-lt, mod-eq-of-lt, eq-zero-or-pos, eq-or-lt-of-le, pow-succ'}
 use native.Mathlib.Omega.{arith}
-use lib.Dec.{lit≤}
+use lib.Dec.{T, lit≤}
 use lib.Pow.{pow-add, pow-pos, pow-mono, shl-lt, shr-lt}
-use lib.Ieee.{Float, nan, inf, fin, Format, binary32, binary64, prec, low, hid, ones, up, down, size, units, round, toBits, ofBits}
-use lib.Ieee.Fits.{down-pos, round-is, nearest-le}
+use lib.Ieee.{Float, nan, inf, fin, Format, binary32, binary64, prec, low, up, down, size, units, round, toBits, ofBits, fits, isNan, ne, neg, div}
+use lib.Ieee.Bits.{ofBits-toBits, toBits-lt}
+use lib.Ieee.Fits.{down-pos, round-is, round-fits, nan-fits, inf-fits, nearest-le}
 use lib.Ieee.Exact.{HasValue}
 use lib.Ieee.Nearest.{closest, closest-same, nearest-ge}
 use lib.Ieee.Scale.{round-same}
 use Rattle.ieee.specs.Convert.{convert}
-use Rattle.ieee.proofs.Laws.{drop-is, units-bits, Lead, closest-lt}
-use Rattle.ieee.proofs.Reading.{read-low, read-high}
+use Rattle.ieee.proofs.Naturals.{closest-lt}
+use Rattle.ieee.proofs.Tests.{nan-is, zero-over-zero}
+use Rattle.ieee.proofs.Units.{Lead, round-neg, round-plain, neg-neg, neg-plain}
+use Rattle.ieee.proofs.Patterns.{drop-is, units-bits}
+use Rattle.ieee.proofs.Reading.{read-low, read-high, Pattern, pattern, in-size, ofBits-neg}
 
-pub narrow-value : (v : Float) (s : Bool) (n d : ℕ) → 0 < d → HasValue v s n d → convert binary32 v ≡ round binary32 s n d
+narrow-value : (v : Float) (s : Bool) (n d : ℕ) → 0 < d → HasValue v s n d → convert binary32 v ≡ round binary32 s n d
 unfolding convert
 narrow-value nan s n d D h = absurd h
 narrow-value (inf t) s n d D h = absurd h
@@ -30,7 +34,7 @@ module _ (f : Format) (s : Bool) (sig j L k d : ℕ) (D : d + (j + low f) ≡ L 
   whole : n * 2 ^ d ≡ sig * (2 ^ L * 2 ^ k)
   whole = rw (← pow-add 2 L k, ← D, pow-add 2 d (j + low f), pow-add 2 j (low f)) (simp (mul-assoc, mul-comm, mul-left-comm))
 
-  pub round-shift : size (n / 2 ^ L) - prec f ≡ k → round f s (sig * 2 ^ j) (2 ^ L) ≡ units f s (closest sig (2 ^ d)) k
+  round-shift : size (n / 2 ^ L) - prec f ≡ k → round f s (sig * 2 ^ j) (2 ^ L) ≡ units f s (closest sig (2 ^ d)) k
   round-shift z =
       round-is f s (sig * 2 ^ j) (2 ^ L)
       ∙ ap (λ (x : ℕ). units f s (closest n (2 ^ L * 2 ^ x)) x) z
@@ -58,7 +62,7 @@ module _ (sig j k d : ℕ) (small : sig < 2 ^ 53) (D : d + (j + 149) ≡ 1074 + 
       same : 23 + k + 1074 ≡ 52 + j + 149
       same = omega arith
 
-  pub drops : size w - 24 ≡ k
+  drops : size w - 24 ≡ k
   drops = drop-is 24 k w upper (go lead)
     where
       go : (k ≡ 0) ⊎ ((d ≡ 29) × (2 ^ 52 ≤ sig)) → (k ≡ 0) ⊎ (2 ^ (24 + k) ≤ 2 * w)
@@ -75,7 +79,7 @@ module _ (sig j k d : ℕ) (small : sig < 2 ^ 53) (D : d + (j + 149) ≡ 1074 + 
       go : (a b : ℕ) → a ≤ b → 2 ^ 23 ≤ a → 2 ^ 24 ≤ 2 * b
       go a b x y = omega arith
 
-  pub narrow-bits : (v : Float) → HasValue v false (sig * 2 ^ j) (2 ^ 1074) → toBits binary32 (convert binary32 v) ≡ min (k * 0x80_0000 + closest sig (2 ^ d)) 0x7f80_0000
+  narrow-bits : (v : Float) → HasValue v false (sig * 2 ^ j) (2 ^ 1074) → toBits binary32 (convert binary32 v) ≡ min (k * 0x80_0000 + closest sig (2 ^ d)) 0x7f80_0000
   narrow-bits v h =
       ap (toBits binary32) (narrow-value v false (sig * 2 ^ j) (2 ^ 1074) (pow-pos 1074) h ∙ round-shift binary32 false sig j 1074 k d D drops)
       ∙ units-bits binary32 (closest sig (2 ^ d)) k q-le (q-ge lead)
@@ -110,7 +114,7 @@ module _ (a : ℕ) (A : a ≤ 0x7ff0_0000_0000_0000) where
   digits-ge : 2 ^ 52 ≤ digits
   digits-ge = omega arith
 
-  pub narrow-normal : 897 ≤ field → field < 2047 → size-of a ≡ min ((field - 897) * 0x80_0000 + closest digits (2 ^ 29)) 0x7f80_0000
+  narrow-normal : 897 ≤ field → field < 2047 → size-of a ≡ min ((field - 897) * 0x80_0000 + closest digits (2 ^ 29)) 0x7f80_0000
   narrow-normal lo hi =
       narrow-bits digits (field - 1) (field - 897) 29 digits-lt (omega arith) (omega arith) (inr (refl, digits-ge)) (ofBits binary64 a)
       (read-high binary64 a in-range (field - 1) (omega arith) (omega arith))
@@ -152,3 +156,52 @@ module _ (a : ℕ) (A : a ≤ 0x7ff0_0000_0000_0000) where
     where
       whole : (k q : ℕ) → k ≤ 253 → q ≤ 2 ^ 24 → min (k * 0x80_0000 + q) 0x7f80_0000 ≡ k * 0x80_0000 + q
       whole k q h l = omega arith
+
+-- ---- the sign, and what is no number
+narrow-neg : (v : Float) → convert binary32 (neg v) ≡ neg (convert binary32 v)
+unfolding convert neg
+narrow-neg nan = refl
+narrow-neg (inf s) = refl
+narrow-neg (fin s m e) = round-neg binary32 s (m * up e) (down e)
+
+narrow-fits : (v : Float) → T (fits binary32 (convert binary32 v))
+unfolding convert
+narrow-fits nan = nan-fits binary32
+narrow-fits (inf s) = inf-fits binary32 s
+narrow-fits (fin s m e) = round-fits binary32 s (m * up e) (down e)
+
+narrow-plain : (v : Float) → T (not (isNan v)) → T (not (isNan (convert binary32 v)))
+unfolding convert
+narrow-plain nan h = h
+narrow-plain (inf s) h = h
+narrow-plain (fin s m e) h = round-plain binary32 s (m * up e) (down e)
+
+pub narrow-nan : (x : Float) → ne x x ≡ true → div binary32 (ofBits binary32 0) (ofBits binary32 0) ≡ convert binary32 x
+unfolding convert
+narrow-nan x h = zero-over-zero binary32 ∙ sym (ap (convert binary32) (nan-is x h))
+
+-- ---- an x that the format holds and that is no NaN, by its pattern b: what `narrow_size` is asked, and what it gives
+module _ (x : Float) (F : T (fits binary64 x)) (N : T (not (isNan x))) where
+  abbrev b : ℕ
+  b = toBits binary64 x
+
+  wide : b < 2 ^ 64
+  wide = toBits-lt binary64 x F
+
+  pub size-above : 2 ^ 63 ≤ b → b - 2 ^ 63 ≤ 0x7ff0_0000_0000_0000
+  size-above h = omega (arith, in-size binary64 x F N, wide)
+
+  pub size-below : b < 2 ^ 63 → b ≤ 0x7ff0_0000_0000_0000
+  size-below h = omega (arith, in-size binary64 x F N)
+
+  pub of-below : (r : ℕ) → r ≡ toBits binary32 (convert binary32 (ofBits binary64 b)) → Pattern binary32 (convert binary32 x) r
+  of-below r e = pattern binary32 (convert binary32 x) r (narrow-fits x) (narrow-plain x N) (e ∙ ap (λ (v : Float). toBits binary32 (convert binary32 v)) (ofBits-toBits binary64 x F))
+
+  turned : 2 ^ 63 ≤ b → ofBits binary64 (b - 2 ^ 63) ≡ neg x
+  turned h = sym (neg-neg (ofBits binary64 (b - 2 ^ 63))) ∙ ap neg (sym (ofBits-neg binary64 b h wide) ∙ ofBits-toBits binary64 x F)
+
+  pub of-above : 2 ^ 63 ≤ b → (r : ℕ) → r ≡ toBits binary32 (convert binary32 (ofBits binary64 (b - 2 ^ 63))) → Pattern binary32 (convert binary32 (neg x)) r
+  of-above h r e = pattern binary32 (convert binary32 (neg x)) r (narrow-fits (neg x)) (narrow-plain (neg x) (neg-plain x N)) (e ∙ ap (λ (v : Float). toBits binary32 (convert binary32 v)) (turned h))
+
+  pub above-is : (y : Float) → y ≡ convert binary32 (neg x) → neg y ≡ convert binary32 x
+  above-is y e = ap neg (e ∙ narrow-neg x) ∙ neg-neg (convert binary32 x)

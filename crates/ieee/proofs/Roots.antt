@@ -1,4 +1,4 @@
--- Square roots of whole numbers: `root n` is the whole part of n's root (`root-is`, `root-unique`), and the step of the loop that works one out. Assumes nothing.
+-- Square roots of whole numbers: `root n` is the whole part of n's root (`root-is`, `root-unique`), and the step of the loop that works one out.
 use mathlib.Core.Path.{_≡_, refl, sym, ap, _∙_, subst}
 use mathlib.Core.Logic.{_⊎_, inl, inr}
 use mathlib.Core.Bool.{Bool, true, false, not, cond}
@@ -10,7 +10,7 @@ use lib.Dec.{T, leb, leb→le, nleb→lt, lit≤, lit<}
 use lib.Ieee.{size, nearest}
 use lib.Ieee.Digits.{size-lt}
 use Rattle.ieee.specs.Sqrt.{rootTo, root, halfway, nearestRoot}
-use Rattle.ieee.proofs.Laws.{compare-lt, compare-gt}
+use Rattle.ieee.proofs.Naturals.{le-or-lt, compare-lt, compare-gt}
 
 -- r is the whole part of n's root
 abbrev pub IsRoot : ℕ → ℕ → Type 0
@@ -107,3 +107,15 @@ finish {m} {n} {rest} {q} {over} {i} D l e =
     let is : m * 4 ^ n / 2 ^ 54 ≡ q * q + over = last m n rest q over (subst (λ (j : ℕ). Digits m n rest q over j) at D) e in
     let r = rounded q over (D .slack) in
     (λ g. add-one q ∙ sym (ap nearestRoot is ∙ r .0 g), λ g. sym (ap nearestRoot is ∙ r .1 g))
+
+-- q is the whole number nearest to n's root where (q - 1 / 2)² < n < (q + 1 / 2)²: in whole numbers, where q² - q < n ≤ q² + q
+pub tested : (q n : ℕ) → 0 < q → q * q - q < n → n ≤ q * q + q → nearestRoot n ≡ q
+tested zero n Q lo hi = absurd (lt-irrefl 0 Q)
+tested (suc p) n Q lo hi = elim (le-or-lt (suc p * suc p) n) [
+  | inl g ↦
+      let is : n ≡ suc p * suc p + (n - suc p * suc p) = omega arith in
+      ap nearestRoot is ∙ rounded (suc p) (n - suc p * suc p) (omega arith) .1 (omega arith)
+  | inr l ↦
+      let is : n ≡ p * p + (n - p * p) = omega arith in
+      ap nearestRoot is ∙ rounded p (n - p * p) (omega arith) .0 (omega arith)
+]

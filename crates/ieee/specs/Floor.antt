@@ -1,10 +1,31 @@
--- The whole number next below a float: IEEE 754-2019, section 5.9, roundToIntegralTowardNegative. A negative number's size is cut upward. The result is exact, so `round` rounds nothing.
-use Prim.Native.Nat.{_+_, _-_, _*_, _/_}
-use mathlib.Core.Bool.{cond}
-use lib.Ieee.{Float, nan, inf, fin, Format, up, down, round}
+-- The whole number next below a float: IEEE 754-2019, section 5.9, roundToIntegralTowardNegative.
+use Prim.Native.Nat.{ℕ, _+_, _-_, _*_, _/_}
+use mathlib.Core.Path.{_≡_}
+use mathlib.Core.Bool.{Bool, cond}
+use lib.Dec.{T}
+use lib.Ieee.{Float, nan, inf, fin, Format, up, down, round, le, fits}
+use lib.Ieee.Exact.{HasValue}
+use Rattle.ieee.specs.Order.{negative}
 
+-- num / den cut to a whole number: downward, or upward as the size of a negative number
+abbrev pub cut : Bool → ℕ → ℕ → ℕ
+cut s num den = (num + cond s (den - 1) 0) / den
+
+-- The result is exact: `round` rounds nothing.
 unfoldable pub floor : Format → Float → Float
 unfolding round
 floor f nan = nan
 floor f (inf s) = inf s
-floor f (fin s m e) = round f s ((m * up e + cond s (down e - 1) 0) / down e) 1
+floor f (fin s m e) = round f s (cut s (m * up e) (down e)) 1
+
+-- x is a whole number: n or -n
+abbrev pub Whole : Float → Type 0
+Whole x = (s : Bool) × (n : ℕ) × HasValue x s n 1
+
+-- r is what x is rounded to: a value of the format, the greatest whole number that is at most x, with x's sign
+pub record RoundTowardNegative (f : Format) (x r : Float) : Type 0 where
+  pub held : T (fits f r)
+  pub whole : Whole r
+  pub below : T (le r x)
+  pub greatest : (y : Float) → Whole y → T (le y x) → T (le y r)
+  pub sign : negative r ≡ negative x

@@ -3,3 +3,4 @@ pub mod Convert
 pub mod Sqrt
 pub mod Order
 pub mod Floor
+pub mod Rounding

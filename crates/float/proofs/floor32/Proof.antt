@@ -1,4 +1,4 @@
--- `leaf::floor32` meets its contract. `proofs/Floors.antt` says what the digits, cut at p, are. Assumes nothing.
+-- The digits, cut at p, are the number cut at 1; zeros and what is from 2 ^ 23 on stay.
 use borrow.Author.Needs.{needs}
 use mathlib.Core.Path.{_≡_, sym, ap, _∙_, subst}
 use mathlib.Core.Logic.{⊎-elim, inl, inr}
@@ -8,8 +8,8 @@ use native.Mathlib.Omega.{arith}
 use lib.Dec.{T}
 use lib.Pow.{pow-pos, pow-mono}
 use lib.Ieee.{Float, binary32, fits, isNan, toBits}
-use Rattle.ieee.proofs.Laws.{no-nan}
-use Rattle.ieee.proofs.Floors.{floor-nan, stays-large, stays-zero, floor-part, sized-above, sized-below, size-in, up-in, down-in, up-is, down-is, Part, part-in}
+use Rattle.ieee.proofs.Tests.{no-nan}
+use Rattle.ieee.proofs.FloorPatterns.{floor-nan, stays-large, stays-zero, floor-part, sized-above, sized-below, size-in, up-in, down-in, up-is, down-is, Part, part-in}
 use Rattle.float.proofs.floor32.Statement.{statement}
 use Rattle.float.proofs.floor32.Tie as tie
 

@@ -1,3 +1,4 @@
+-- What the field says of the size: infinity, a normal f32, a subnormal one, or nothing.
 use Rattle.ieee.proofs.Narrowing.{narrow-over, narrow-mid, narrow-low, narrow-none, digits-closest}
 use lib.Ieee.Nearest.{closest}
 use lib.Pow.{pow-pos, pow-lt, pow-mono}
@@ -7,54 +8,40 @@ use mathlib.Core.Path.{_≡_, sym, ap, _∙_}
 use borrow.Author.Needs.{needs}
 use Rattle.float.proofs.narrow_size.Statement.{statement}
 use Rattle.float.proofs.narrow_size.Tie as tie
-use Rattle.float.proofs.narrow_size.Reads as reads
-use Rattle.float.proofs.narrow_size.Lts as lts
-use Rattle.float.proofs.nearest.Reads as nearest-reads
-use Rattle.float.proofs.pow2.Reads as pow2-reads
 
--- src/lib.rt:71:18
 add-digits : tie.Need-add-digits
 add-digits c = search needs
 
--- src/lib.rt:75:9
 mul-result : tie.Need-mul-result
 mul-result c = search needs
 
--- src/lib.rt:75:37
 nearest-requires : tie.Need-nearest-requires
 nearest-requires c κs = search needs
 
--- src/lib.rt:75:9
 add-result : tie.Need-add-result
 add-result c =
     let a = c .before .before .before .args .a in
     omega (arith, digits-closest a (c .before .before .before .pre) .1, c .nearest .ensures)
 
--- src/lib.rt:77:30
 sub-pow2 : tie.Need-sub-pow2
 sub-pow2 c = search needs
 
--- src/lib.rt:77:25
 pow2-requires : tie.Need-pow2-requires
 pow2-requires c κs = search needs
 
--- src/lib.rt:77:9
 nearest-requires-2 : tie.Need-nearest-requires-2
 nearest-requires-2 c κs =
     let d = 926 - c .before .before .before .before .args .a / 2 ^ 52 in
     omega (arith, c .pow2 .ensures, pow-pos d, pow-mono {i = d} {j = 54} (omega arith))
 
--- src/lib.rt:66:1
 returns : tie.Need-returns
 returns c = sym (narrow-over (c .before .args .a) (c .before .pre) (c .if1 .taken))
 
--- src/lib.rt:66:1
 returns-2 : tie.Need-returns-2
 returns-2 c =
     let s = c .before .before .before in
     ap (λ (q : ℕ). (s .args .a / 2 ^ 52 - 897) * 0x80_0000 + q) (c .nearest .ensures) ∙ sym (narrow-mid (s .args .a) (s .pre) (c .before .if2 .taken) (c .before .before .if1 .left))
 
--- src/lib.rt:66:1
 returns-3 : tie.Need-returns-3
 returns-3 c =
     let s = c .before .before .before .before .before in
@@ -62,7 +49,6 @@ returns-3 c =
     ∙ ap (λ (p : ℕ). closest (2 ^ 52 + s .args .a % 2 ^ 52) p) (c .before .pow2 .ensures)
     ∙ sym (narrow-low (s .args .a) (s .pre) (omega arith) (c .before .before .before .if2 .left))
 
--- src/lib.rt:66:1
 returns-4 : tie.Need-returns-4
 returns-4 c = sym (narrow-none (c .before .before .before .args .a) (c .before .before .before .pre) (c .if3 .left))
 

@@ -1,3 +1,4 @@
+-- 2 ^ d fits, so nothing is shifted out.
 use lib.Pow.{pow-lt}
 use native.Mathlib.Nat.{one-mul, mod-eq-of-lt}
 use mathlib.Core.Path.{_≡_, _∙_, ap}
@@ -5,14 +6,10 @@ use Prim.Native.Nat.{ℕ, _*_, _^_, _%_, _<_}
 use borrow.Author.Needs.{needs}
 use Rattle.float.proofs.pow2.Statement.{statement}
 use Rattle.float.proofs.pow2.Tie as tie
-use Rattle.float.proofs.pow2.Reads as reads
-use Rattle.float.proofs.pow2.Lts as lts
 
--- src/lib.rt:44:5
 shl-result : tie.Need-shl-result
 shl-result c = search needs
 
--- src/lib.rt:40:1
 returns : tie.Need-returns
 returns c = ap (λ (x : ℕ). x % 2 ^ 64) (one-mul (2 ^ (c .args .d))) ∙ mod-eq-of-lt (pow-lt (c .pre))
 

@@ -1,3 +1,4 @@
+-- The loop's invariant: after i turns q is the whole part of the root of m * 4 ^ i / 2 ^ 54, which is q * q + over and the rest. The measure is the turns left.
 use native.Mathlib.Omega.{arith}
 use Prim.Native.Nat.{_-_, _^_, _<_}
 use native.Mathlib.Nat.{lt-of-lt-of-le}
@@ -6,8 +7,6 @@ use mathlib.Core.Logic.{⊎-elim}
 use Rattle.ieee.proofs.Roots.{Digits, first, one, nought, finish}
 use Rattle.float.proofs.root.Statement.{statement}
 use Rattle.float.proofs.root.Tie as tie
-use Rattle.float.proofs.root.Reads as reads
-use Rattle.float.proofs.root.Lts as lts
 
 abbrev Inv-loop : tie.InvT-loop
 Inv-loop m n rest₀ q₀ over₀ i₀ rest q over i = Digits m n rest q over i
@@ -19,74 +18,57 @@ abbrev μ-loop : tie.MeasureT-loop
 short : (c : tie.At-loop Inv-loop μ-loop) → c .loop .q < 2 ^ 53
 short c = lt-of-lt-of-le (c .loop .inv .long) (pow-mono {j = 53} (omega arith))
 
--- src/lib.rt:108:5
 loop-holds : tie.Need-loop-holds Inv-loop μ-loop
 loop-holds c = omega arith
 
--- src/lib.rt:109:17
 mul-d : tie.Need-mul-d Inv-loop μ-loop
 mul-d c = omega (arith, short (c .before))
 
--- src/lib.rt:109:17
 add-d : tie.Need-add-d Inv-loop μ-loop
 add-d c = omega (arith, short (c .before))
 
--- src/lib.rt:110:16
 mul-rest : tie.Need-mul-rest Inv-loop μ-loop
 mul-rest c = omega arith
 
--- src/lib.rt:111:16
 mul-if1 : tie.Need-mul-if1 Inv-loop μ-loop
 mul-if1 c = omega (arith, short (c .before))
 
--- src/lib.rt:112:24
 mul-over : tie.Need-mul-over Inv-loop μ-loop
 mul-over c = omega (arith, short (c .before .before))
 
--- src/lib.rt:112:20
 sub-over : tie.Need-sub-over Inv-loop μ-loop
 sub-over c = omega arith
 
--- src/lib.rt:112:20
 sub-over-2 : tie.Need-sub-over-2 Inv-loop μ-loop
 sub-over-2 c = omega arith
 
--- src/lib.rt:113:17
 mul-q : tie.Need-mul-q Inv-loop μ-loop
 mul-q c = omega (arith, short (c .before .before))
 
--- src/lib.rt:113:17
 add-q : tie.Need-add-q Inv-loop μ-loop
 add-q c = omega (arith, short (c .before .before))
 
--- src/lib.rt:116:17
 mul-q-2 : tie.Need-mul-q-2 Inv-loop μ-loop
 mul-q-2 c = omega (arith, short (c .before .before))
 
--- src/lib.rt:118:9
 add-i : tie.Need-add-i Inv-loop μ-loop
 add-i c = omega arith
 
--- src/lib.rt:108:5
 loop-less : tie.Need-loop-less Inv-loop μ-loop
 loop-less c = omega arith
 
--- src/lib.rt:108:5
 loop-again : tie.Need-loop-again Inv-loop μ-loop
 loop-again c =
     let D = c .before .before .loop .inv in
     let l = c .before .loop-test .taken in
     ⊎-elim (λ w. rw (w .1, w .2) (one D l (w .0 .taken))) (λ w. rw (w .1, w .2) (nought D l (w .0 .left))) (c .if1 .came)
 
--- src/lib.rt:120:19
 add-result : tie.Need-add-result Inv-loop μ-loop
 add-result c = omega (arith, short (c .before .before))
 
--- src/lib.rt:100:1
 returns : tie.Need-returns Inv-loop μ-loop
 returns c = finish (c .before .before .loop .inv) (c .before .loop-test .left) (c .before .before .before .pre .2) .0 (c .if2 .taken)
 
--- src/lib.rt:100:1
 returns-2 : tie.Need-returns-2 Inv-loop μ-loop
 returns-2 c = finish (c .before .before .loop .inv) (c .before .loop-test .left) (c .before .before .before .pre .2) .1 (c .if2 .left)
 

@@ -1,3 +1,4 @@
+-- A field above 0 has all 53 digits; at a field of 0 the digits move up until the first is a 1.
 use Rattle.float.proofs.Scaling.{lz-in, low-hi, scaled-low, scaled-high}
 use Rattle.float.specs.Scaled.{IsScaled}
 use lib.Count.{leadingZeros}
@@ -7,50 +8,38 @@ use native.Mathlib.Omega.{arith}
 use borrow.Author.Needs.{needs}
 use Rattle.float.proofs.scaled.Statement.{statement}
 use Rattle.float.proofs.scaled.Tie as tie
-use Rattle.float.proofs.scaled.Reads as reads
-use Rattle.float.proofs.scaled.Lts as lts
-use Rattle.float.proofs.pow2.Reads as pow2-reads
 
 room : (c : tie.Then1) → (11 ≤ leadingZeros 64 (c .before .args .a % 2 ^ 52)) × (leadingZeros 64 (c .before .args .a % 2 ^ 52) - 11 ≤ 52) × (leadingZeros 64 (c .before .args .a % 2 ^ 52) < 64)
 room c = lz-in (c .before .args .a) (c .before .pre .1) (c .if1 .taken) (c .before .pre .0)
 
--- src/lib.rt:137:19
 cast-up : tie.Need-cast-up
 cast-up c = omega (arith, room c)
 
--- src/lib.rt:137:18
 sub-up : tie.Need-sub-up
 sub-up c = room c .0
 
--- src/lib.rt:138:31
 pow2-requires : tie.Need-pow2-requires
 pow2-requires c κs = omega (arith, room c)
 
--- src/lib.rt:138:25
 mul-t9 : tie.Need-mul-t9
 mul-t9 c =
     let s = c .before .before in
     omega (arith, subst (λ (p : ℕ). s .args .a % 2 ^ 52 * p < 2 ^ 53) (sym (c .pow2 .ensures)) (low-hi (s .args .a) (s .pre .1) (c .before .if1 .taken) (s .pre .0)))
 
--- src/lib.rt:138:44
 sub-t10 : tie.Need-sub-t10
 sub-t10 c = room (c .before) .1
 
--- src/lib.rt:140:25
 add-t11 : tie.Need-add-t11
 add-t11 c = search needs
 
--- src/lib.rt:140:55
 add-t12 : tie.Need-add-t12
 add-t12 c = search needs
 
--- src/lib.rt:130:1
 returns : tie.Need-returns
 returns c =
     let s = c .before .before in
     subst (λ (p : ℕ). IsScaled (s .args .a) (s .args .a % 2 ^ 52 * p) (52 - (leadingZeros 64 (s .args .a % 2 ^ 52) - 11))) (sym (c .pow2 .ensures)) (scaled-low (s .args .a) (s .pre .1) (c .before .if1 .taken) (s .pre .0))
 
--- src/lib.rt:130:1
 returns-2 : tie.Need-returns-2
 returns-2 c = scaled-high (c .before .args .a) (c .before .pre .1) (omega (arith, c .if1 .left))
 

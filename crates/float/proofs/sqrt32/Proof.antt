@@ -1,4 +1,4 @@
--- `leaf::sqrt32` meets its contract, as `sqrt64` does, of x as an f64. `proofs/Short.antt` says what is left of its digits. Assumes nothing.
+-- The tests leave an x above zero (`AboveZero`), and the pattern of its root is made of the digits and of half the exponent (`SqrtPatterns`). An f32 as an f64 has few digits (`Widened`).
 use borrow.Author.Needs.{needs}
 use mathlib.Core.Path.{_≡_, sym, ap, _∙_, subst}
 use mathlib.Core.Logic.{⊎-elim}
@@ -7,15 +7,16 @@ use Prim.Native.Nat.{ℕ, _+_, _-_, _*_, _/_, _%_, _^_, _≤_, _<_}
 use lib.Dec.{T, lit≤}
 use native.Mathlib.Omega.{arith}
 use lib.Ieee.Fits.{fits-widens, and-i}
-use Rattle.ieee.proofs.Short.{Short, short}
+use Rattle.ieee.proofs.Widened.{Widened, widened}
 use lib.Ieee.{Float, binary32, binary64, fits, isNan, toBits, ofBits}
 use lib.Ieee.Bits.{ofBits-toBits}
 use lib.Ieee.Exact.{HasValue}
 use Rattle.float.specs.Scaled.{IsScaled}
 use Rattle.ieee.specs.Sqrt.{sqrt, nearestRoot}
-use Rattle.ieee.proofs.Signs.{Pattern}
-use Rattle.ieee.proofs.Above.{strict, above-zero, strict-plain, sqrt-nan, sqrt-zero, sqrt-below, sqrt-top, some}
-use Rattle.ieee.proofs.Sqrts.{m-hi, exact32, sqrt32-pattern, doubled, plain}
+use Rattle.ieee.proofs.Reading.{Pattern}
+use Rattle.ieee.proofs.AboveZero.{above-zero, above-plain, above-some, sqrt-nan, sqrt-zero, sqrt-below, sqrt-top}
+use Rattle.ieee.proofs.AboveZero as AboveZero
+use Rattle.ieee.proofs.SqrtPatterns.{m-hi, exact32, sqrt32-pattern, doubled, plain}
 use Rattle.float.proofs.sqrt32.Statement.{statement}
 use Rattle.float.proofs.sqrt32.Tie as tie
 
@@ -29,7 +30,7 @@ held c = subst T (sym (c .before .before .before .good .0 .1)) tt
 wide : (c : tie.Else3) → T (fits binary64 (x c))
 wide c = fits-widens (x c) (held c)
 
-above : (c : tie.Else3) → T (strict (x c))
+above : (c : tie.Else3) → T (AboveZero.above (x c))
 above c = above-zero binary32 (x c) (c .before .before .if1 .left) (c .before .if2 .left) (c .if3 .left)
 
 returns : tie.Need-returns
@@ -42,16 +43,16 @@ returns-3 : tie.Need-returns-3
 returns-3 c = sqrt-below binary32 (c .before .before .before .args .x) (c .if3 .taken)
 
 float-to-float-b : tie.Need-float-to-float-b
-float-to-float-b c = and-i (fits binary64 (x (c .before))) (not (isNan (x (c .before)))) (wide (c .before)) (strict-plain (x (c .before)) (above (c .before)))
+float-to-float-b c = and-i (fits binary64 (x (c .before))) (not (isNan (x (c .before)))) (wide (c .before)) (above-plain (x (c .before)) (above (c .before)))
 
 float-to-bits-b : tie.Need-float-to-bits-b
-float-to-bits-b c = strict-plain (x (c .before)) (above (c .before))
+float-to-bits-b c = above-plain (x (c .before)) (above (c .before))
 
 returns-4 : tie.Need-returns-4
 returns-4 c = sqrt-top (x (c .before .before)) (wide (c .before .before)) (above (c .before .before)) binary32 (c .if4 .taken)
 
 scaled-requires : tie.Need-scaled-requires
-scaled-requires c κs = (some (x (c .before .before)) (wide (c .before .before)) (above (c .before .before)), c .if4 .left)
+scaled-requires c κs = (above-some (x (c .before .before)) (wide (c .before .before)) (above (c .before .before)), c .if4 .left)
 
 mul-m : tie.Need-mul-m
 mul-m c = search needs
@@ -75,8 +76,8 @@ m-is c = ⊎-elim (λ w. w .2 ∙ doubled (digits c) (e c) (w .0 .taken)) (λ w.
 value : (c : tie.Joined5) → HasValue (x (start c)) false (digits c * 2 ^ e c) (2 ^ 1126)
 value c = subst (λ (v : Float). HasValue v false (digits c * 2 ^ e c) (2 ^ 1126)) (ofBits-toBits binary64 (x (start c)) (wide (start c))) (scaled c .value)
 
-brief : (c : tie.Joined5) → Short (digits c) (e c)
-brief c = short (x (start c)) (digits c) (e c) (held (start c)) (above (start c)) (scaled c .lo) (scaled c .hi) (value c)
+brief : (c : tie.Joined5) → Widened (digits c) (e c)
+brief c = widened (x (start c)) (digits c) (e c) (held (start c)) (scaled c .lo) (scaled c .hi) (value c)
 
 sub-result : tie.Need-sub-result
 sub-result c = omega (arith, brief c .above)
@@ -84,20 +85,24 @@ sub-result c = omega (arith, brief c .above)
 mul-result : tie.Need-mul-result
 mul-result c = omega (arith, brief c .below)
 
-root-requires : tie.Need-root-requires
-root-requires c κs =
-    let s = scaled c in
-    let b = brief c in
-    subst (λ (m : ℕ). (m < 2 ^ 54) × (24 ≤ 53) × (m * 4 ^ 24 % 2 ^ 54 ≡ 0)) (sym (m-is c))
-    (m-hi (digits c) (e c) (s .lo) (s .hi), lit≤ tt, exact32 (digits c) (e c) (s .lo) (s .hi) (b .w) (b .even) (b .above) (b .below))
+guess-requires : tie.Need-guess-requires
+guess-requires c κs = search needs
 
-result : (c : tie.After-root) → Pattern binary32 (sqrt binary32 (x (start (c .before)))) ((e (c .before) / 2 - 411) * 2 ^ 23 + c .root .result)
-result c =
+root24-requires : tie.Need-root24-requires
+root24-requires c κs =
     let j = c .before in
     let s = scaled j in
     let b = brief j in
+    subst (λ (m : ℕ). (m < 2 ^ 54) × (m * 4 ^ 24 % 2 ^ 54 ≡ 0) × (2 ^ 23 ≤ c .guess .result) × (c .guess .result ≤ 2 ^ 24)) (sym (m-is j))
+    (m-hi (digits j) (e j) (s .lo) (s .hi), exact32 (digits j) (e j) (s .lo) (s .hi) (b .w) (b .even) (b .above) (b .below), c .guess .ensures .0, c .guess .ensures .1)
+
+result : (c : tie.After-root24) → Pattern binary32 (sqrt binary32 (x (start (c .before .before)))) ((e (c .before .before) / 2 - 411) * 2 ^ 23 + c .root24 .result)
+result c =
+    let j = c .before .before in
+    let s = scaled j in
+    let b = brief j in
     sqrt32-pattern (digits j) (e j) (s .lo) (s .hi) (b .w) (b .even) (b .above) (b .below) (x (start j)) (value j)
-    (c .root .result) (c .root .ensures ∙ ap (λ (m : ℕ). nearestRoot (m * 4 ^ 24 / 2 ^ 54)) (m-is j))
+    (c .root24 .result) (c .root24 .ensures ∙ ap (λ (m : ℕ). nearestRoot (m * 4 ^ 24 / 2 ^ 54)) (m-is j))
 
 add-result : tie.Need-add-result
 add-result c = omega (arith, result c .wide)
@@ -125,7 +130,8 @@ sqrt32-spec =
     mul-m
     sub-result
     mul-result
-    root-requires
+    guess-requires
+    root24-requires
     add-result
     cast-result
     float-from-bits-result

@@ -1,4 +1,4 @@
--- `leaf::sqrt64` meets its contract. `proofs/Above.antt` has the values that its tests take out, and `proofs/Sqrts.antt` the rest. Assumes nothing.
+-- The tests leave an x above zero (`AboveZero`), and the pattern of its root is made of the digits and of half the exponent (`SqrtPatterns`).
 use borrow.Author.Needs.{needs}
 use mathlib.Core.Path.{_≡_, sym, ap, _∙_, subst}
 use mathlib.Core.Logic.{⊎-elim}
@@ -11,9 +11,10 @@ use lib.Ieee.Bits.{ofBits-toBits}
 use lib.Ieee.Exact.{HasValue}
 use Rattle.float.specs.Scaled.{IsScaled}
 use Rattle.ieee.specs.Sqrt.{sqrt, nearestRoot}
-use Rattle.ieee.proofs.Signs.{Pattern}
-use Rattle.ieee.proofs.Above.{strict, above-zero, strict-plain, sqrt-nan, sqrt-zero, sqrt-below, sqrt-top, some}
-use Rattle.ieee.proofs.Sqrts.{m-hi, exact64, sqrt64-pattern, doubled, plain}
+use Rattle.ieee.proofs.Reading.{Pattern}
+use Rattle.ieee.proofs.AboveZero.{above-zero, above-plain, above-some, sqrt-nan, sqrt-zero, sqrt-below, sqrt-top}
+use Rattle.ieee.proofs.AboveZero as AboveZero
+use Rattle.ieee.proofs.SqrtPatterns.{m-hi, exact64, sqrt64-pattern, doubled, plain}
 use Rattle.float.proofs.sqrt64.Statement.{statement}
 use Rattle.float.proofs.sqrt64.Tie as tie
 
@@ -24,7 +25,7 @@ x c = c .before .before .before .args .x
 held : (c : tie.Else3) → T (fits binary64 (x c))
 held c = subst T (sym (c .before .before .before .good .0 .1)) tt
 
-above : (c : tie.Else3) → T (strict (x c))
+above : (c : tie.Else3) → T (AboveZero.above (x c))
 above c = above-zero binary64 (x c) (c .before .before .if1 .left) (c .before .if2 .left) (c .if3 .left)
 
 returns : tie.Need-returns
@@ -37,13 +38,13 @@ returns-3 : tie.Need-returns-3
 returns-3 c = sqrt-below binary64 (c .before .before .before .args .x) (c .if3 .taken)
 
 float-to-bits-b : tie.Need-float-to-bits-b
-float-to-bits-b c = strict-plain (x c) (above c)
+float-to-bits-b c = above-plain (x c) (above c)
 
 returns-4 : tie.Need-returns-4
 returns-4 c = sqrt-top (x (c .before)) (held (c .before)) (above (c .before)) binary64 (c .if4 .taken)
 
 scaled-requires : tie.Need-scaled-requires
-scaled-requires c κs = (some (x (c .before)) (held (c .before)) (above (c .before)), c .if4 .left)
+scaled-requires c κs = (above-some (x (c .before)) (held (c .before)) (above (c .before)), c .if4 .left)
 
 mul-m : tie.Need-mul-m
 mul-m c = search needs

@@ -1,17 +1,14 @@
-use lib.Ieee.{neg}
+-- The sign is taken off and put back, and `narrow_size` gives the pattern of what is between.
 use Rattle.ieee.specs.Convert.{convert}
-use Rattle.ieee.proofs.Signs.{Pattern, size-above, size-below, of-above, of-below, above-is}
-use Rattle.ieee.proofs.Wraps.{narrow-nan}
-use Rattle.ieee.proofs.Laws.{no-nan}
-use lib.Ieee.{Float, binary32, binary64, fits, isNan}
+use Rattle.ieee.proofs.Tests.{no-nan}
+use Rattle.ieee.proofs.Reading.{Pattern}
+use Rattle.ieee.proofs.Narrowing.{narrow-nan, size-above, size-below, of-above, of-below, above-is}
+use lib.Ieee.{binary32, binary64, fits, isNan, neg}
 use lib.Dec.{T}
 use mathlib.Core.Bool.{not}
-use mathlib.Core.Path.{_≡_, sym, ap, subst}
+use mathlib.Core.Path.{sym, subst}
 use Rattle.float.proofs.to_f32.Statement.{statement}
 use Rattle.float.proofs.to_f32.Tie as tie
-use Rattle.float.proofs.to_f32.Reads as reads
-use Rattle.float.proofs.to_f32.Lts as lts
-use Rattle.float.proofs.narrow_size.Reads as narrow-size-reads
 
 -- what owning a float tells: the format holds it
 held : (c : tie.Start) → T (fits binary64 (c .args .x))
@@ -30,43 +27,33 @@ lower c =
     let t = c .before in
     of-below (t .before .before .args .x) (held (t .before .before)) (plain (t .before)) (c .narrow-size2 .result) (c .narrow-size2 .ensures)
 
--- src/lib.rt:88:9
 returns : tie.Need-returns
 returns c = narrow-nan (c .before .args .x) (c .if1 .taken)
 
--- src/lib.rt:90:13
 float-to-bits-b : tie.Need-float-to-bits-b
 float-to-bits-b c = plain c
 
--- src/lib.rt:92:25
 narrow-size-requires : tie.Need-narrow-size-requires
 narrow-size-requires c κs = size-above (c .before .before .args .x) (held (c .before .before)) (plain (c .before)) (c .if2 .taken)
 
--- src/lib.rt:92:25
 cast-result : tie.Need-cast-result
 cast-result c = record { fits = upper c .wide }
 
--- src/lib.rt:92:10
 float-from-bits-result : tie.Need-float-from-bits-result
 float-from-bits-result c = upper c .plain
 
--- src/lib.rt:94:24
 narrow-size-requires-2 : tie.Need-narrow-size-requires-2
 narrow-size-requires-2 c κs = size-below (c .before .before .args .x) (held (c .before .before)) (plain (c .before)) (c .if2 .left)
 
--- src/lib.rt:94:24
 cast-result-2 : tie.Need-cast-result-2
 cast-result-2 c = record { fits = lower c .wide }
 
--- src/lib.rt:94:9
 float-from-bits-result-2 : tie.Need-float-from-bits-result-2
 float-from-bits-result-2 c = lower c .plain
 
--- src/lib.rt:84:1
 returns-2 : tie.Need-returns-2
 returns-2 c = above-is (c .before .before .before .args .x) (held (c .before .before .before)) (plain (c .before .before)) _ (upper c .back)
 
--- src/lib.rt:84:1
 returns-3 : tie.Need-returns-3
 returns-3 c = lower c .back
 

@@ -1,41 +1,34 @@
--- The floats that the tests of `sqrt64` and `sqrt32` leave: those above zero. Assumes nothing.
+-- The floats that are left to sqrt once its tests have taken out NaN, zeros and what is below zero: those above zero (`Above`). And what it gives for the others, and for the infinity.
 use mathlib.Core.Path.{_≡_, refl, sym, ap, _∙_, subst}
-use mathlib.Core.Bool.{Bool, true, false, not, cond, _&&_, _||_, true≢false, false≢true}
-use Prim.Native.Nat.{ℕ, zero, suc, _+_, _-_, _*_, _/_, _%_, _^_, _≤_, _<_}
-use native.Mathlib.Nat.{le-antisymm, mod-eq-of-lt, mul-pos, zero-lt-suc, zero-mul, mul-one, lt-irrefl, eq-zero-or-pos, le-trans, le-of-eq}
+use mathlib.Core.Bool.{Bool, true, false, not, _&&_, true≢false, false≢true}
 use mathlib.Core.Logic.{_⊎_, inl, inr}
+use Prim.Native.Nat.{ℕ, zero, suc, _+_, _*_, _%_, _≤_, _<_}
+use native.Mathlib.Nat.{le-antisymm, mod-eq-of-lt, mul-pos, zero-lt-suc, zero-mul, mul-one, eq-zero-or-pos}
 use native.Mathlib.Omega.{arith}
-use lib.IntN.{ℤ, pos}
+use lib.IntN.{ℤ}
 use lib.Dec.{T, ltb, eqb, ltb→lt, lt→ltb, eqb→eq}
-use lib.Ieee.{Float, nan, inf, fin, Format, binary32, binary64, hid, ones, top, up, down, ofBits, toBits, fits, isNan, ne, eq, lt, div}
+use lib.Ieee.{Float, nan, inf, fin, Format, binary64, top, up, down, ofBits, toBits, fits, isNan, ne, eq, lt, div}
 use lib.Ieee.Fits.{up-pos, and-l}
 use lib.Ieee.Bits.{ofBits-toBits}
-use lib.Ieee.Compare.{differs-from-itself}
+use borrow.Author.Tests.{ltb-true}
+use Rattle.ieee.specs.Order.{negative}
 use Rattle.ieee.specs.Sqrt.{sqrt}
-use Rattle.ieee.proofs.Laws.{yes}
-use Rattle.ieee.proofs.Signs.{in-size, fin-low, inf-low}
+use Rattle.ieee.proofs.Tests.{yes, nan-is, zero-float, zero-is, zero-over-zero}
+use Rattle.ieee.proofs.Reading.{in-size, sign-test}
 
-abbrev zero-float : Float
-zero-float = fin false 0 (pos 0)
+abbrev pub above : Float → Bool
+above nan = false
+above (inf s) = not s
+above (fin s zero e) = false
+above (fin s (suc m) e) = not s
 
--- 0.0 as MIR has it
-zero-is : (f : Format) → ofBits f 0 ≡ zero-float
-unfolding ofBits
-zero-is binary32 = refl
-zero-is binary64 = refl
-
-no-number : (f : Format) → div f (ofBits f 0) (ofBits f 0) ≡ nan
-unfolding ofBits div
-no-number binary32 = refl
-no-number binary64 = refl
-
+-- ---- `x == 0.0`, `x < 0.0`
 nothing : (e : ℤ) → zero * up e * 1 ≡ 0
 nothing e = mul-one (zero * up e) ∙ zero-mul (up e)
 
 something : (m : ℕ) (e : ℤ) → 0 < suc m * up e * 1
 something m e = rw (mul-one (suc m * up e)) (mul-pos (zero-lt-suc m) (up-pos e))
 
--- ---- `x == 0.0`, `x < 0.0`
 eq-zero : (s : Bool) (e : ℤ) → eq (fin s zero e) zero-float ≡ true
 unfolding eq
 eq-zero true e = rw (nothing e, zero-mul (down e))
@@ -45,14 +38,7 @@ lt-zero : (m : ℕ) (e : ℤ) → T (lt (fin true (suc m) e) zero-float)
 unfolding lt
 lt-zero m e = lt→ltb 0 (suc m * up e * 1 + 0 * down e) (omega (arith, something m e))
 
--- above zero: an infinity, or finite
-abbrev pub strict : Float → Bool
-strict nan = false
-strict (inf s) = not s
-strict (fin s zero e) = false
-strict (fin s (suc m) e) = not s
-
-above-at : (x : Float) → ne x x ≡ false → eq x zero-float ≡ false → lt x zero-float ≡ false → T (strict x)
+above-at : (x : Float) → ne x x ≡ false → eq x zero-float ≡ false → lt x zero-float ≡ false → T (above x)
 unfolding ne lt
 above-at nan a b c = absurd (true≢false a)
 above-at (inf true) a b c = absurd (true≢false c)
@@ -61,12 +47,13 @@ above-at (fin s zero e) a b c = absurd (true≢false (sym (eq-zero s e) ∙ b))
 above-at (fin true (suc m) e) a b c = absurd (subst T c (lt-zero m e))
 above-at (fin false (suc m) e) a b c = tt
 
-pub above-zero : (f : Format) (x : Float) → ne x x ≡ false → eq x (ofBits f 0) ≡ false → lt x (ofBits f 0) ≡ false → T (strict x)
+pub above-zero : (f : Format) (x : Float) → ne x x ≡ false → eq x (ofBits f 0) ≡ false → lt x (ofBits f 0) ≡ false → T (above x)
 above-zero f x a b c = above-at x a (rw (zero-is f) at b) (rw (zero-is f) at c)
 
+-- ---- the others
 pub sqrt-nan : (f : Format) (x : Float) → ne x x ≡ true → x ≡ sqrt f x
 unfolding sqrt
-sqrt-nan f x h = rw (differs-from-itself x (yes h))
+sqrt-nan f x h = rw (nan-is x h)
 
 not-zero : (m : ℕ) (e : ℤ) (b : Bool) → eqb (suc m * up e * 1) (0 * down e) && b ≡ true → ⊥
 not-zero m e b h =
@@ -99,22 +86,26 @@ below-at f (fin true zero e) h = absurd (none (zero * up e * 1) (0 * down e) (no
 below-at f (fin true (suc m) e) h = refl
 
 pub sqrt-below : (f : Format) (x : Float) → lt x (ofBits f 0) ≡ true → div f (ofBits f 0) (ofBits f 0) ≡ sqrt f x
-sqrt-below f x h = no-number f ∙ below-at f x (rw (zero-is f) at h)
+sqrt-below f x h = zero-over-zero f ∙ below-at f x (rw (zero-is f) at h)
 
--- ---- an x above zero that an f64 holds, by its pattern
-pub strict-low : (f : Format) (x : Float) → T (fits f x) → T (strict x) → toBits f x < top f
-strict-low f nan F S = absurd S
-strict-low f (inf true) F S = absurd S
-strict-low f (inf false) F S = inf-low f
-strict-low f (fin s zero e) F S = absurd S
-strict-low f (fin true (suc m) e) F S = absurd S
-strict-low f (fin false (suc m) e) F S = fin-low f (suc m) e F
-
-pub strict-plain : (x : Float) → T (strict x) → T (not (isNan x))
+-- ---- an x above zero, by its pattern
+pub above-plain : (x : Float) → T (above x) → T (not (isNan x))
 unfolding isNan
-strict-plain nan S = S
-strict-plain (inf s) S = tt
-strict-plain (fin s m e) S = tt
+above-plain nan A = A
+above-plain (inf s) A = tt
+above-plain (fin s m e) A = tt
+
+above-plus : (x : Float) → T (above x) → negative x ≡ false
+unfolding negative
+above-plus nan A = refl
+above-plus (inf true) A = absurd A
+above-plus (inf false) A = refl
+above-plus (fin s zero e) A = absurd A
+above-plus (fin true (suc m) e) A = absurd A
+above-plus (fin false (suc m) e) A = refl
+
+pub above-low : (f : Format) (x : Float) → T (fits f x) → T (above x) → toBits f x < top f
+above-low f x F A = ltb-true (toBits f x) (top f) (sign-test f x F (above-plain x A) ∙ ap not (above-plus x A))
 
 inf-is : ofBits binary64 0x7ff0_0000_0000_0000 ≡ inf false
 unfolding ofBits
@@ -124,21 +115,21 @@ sqrt-inf : (f : Format) → inf false ≡ sqrt f (inf false)
 unfolding sqrt
 sqrt-inf f = refl
 
-module _ (x : Float) (F : T (fits binary64 x)) (S : T (strict x)) where
+module _ (x : Float) (F : T (fits binary64 x)) (A : T (above x)) where
   abbrev b : ℕ
   b = toBits binary64 x
 
   most : b ≤ 0x7ff0_0000_0000_0000
-  most = subst (λ (y : ℕ). y ≤ 0x7ff0_0000_0000_0000) (mod-eq-of-lt (strict-low binary64 x F S)) (in-size binary64 x F (strict-plain x S))
+  most = subst (λ (y : ℕ). y ≤ 0x7ff0_0000_0000_0000) (mod-eq-of-lt (above-low binary64 x F A)) (in-size binary64 x F (above-plain x A))
 
   pub sqrt-top : (f : Format) → 0x7ff0_0000_0000_0000 ≤ b → x ≡ sqrt f x
   sqrt-top f h =
       let e : x ≡ inf false = sym (ofBits-toBits binary64 x F) ∙ ap (ofBits binary64) (le-antisymm most h) ∙ inf-is in
       e ∙ sqrt-inf f ∙ ap (sqrt f) (sym e)
 
-  pub some : 0 < b
-  some = go (eq-zero-or-pos b)
+  pub above-some : 0 < b
+  above-some = go (eq-zero-or-pos b)
     where
       go : (b ≡ 0) ⊎ (0 < b) → 0 < b
-      go (inl z) = absurd (subst (λ (y : Float). T (strict y)) (sym (ofBits-toBits binary64 x F) ∙ ap (ofBits binary64) z ∙ zero-is binary64) S)
+      go (inl z) = absurd (subst (λ (y : Float). T (above y)) (sym (ofBits-toBits binary64 x F) ∙ ap (ofBits binary64) z ∙ zero-is binary64) A)
       go (inr p) = p

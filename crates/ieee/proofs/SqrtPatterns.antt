@@ -1,40 +1,24 @@
--- `sqrt f` of a positive finite value, by the root of a whole number of twice the format's digits. Assumes nothing.
-use mathlib.Core.Path.{_≡_, refl, sym, ap, _∙_, subst}
+-- `sqrt` of a number above zero, as patterns: the root has all of the format's digits, so it is the whole number nearest to the root of an N of twice as many (`sqrt-is`), and that is what its pattern ends in
+-- (`sqrt-pattern`). Then the N that sqrt64 and sqrt32 make of the 53 digits of an f64.
+use mathlib.Core.Path.{_≡_, refl, sym, ap, _∙_}
 use mathlib.Core.Logic.{_⊎_, inl, inr}
-use mathlib.Core.Bool.{Bool, true, false, not, cond, true≢false, false≢true}
-use Prim.Native.Nat.{ℕ, zero, suc, _+_, _-_, _*_, _/_, _%_, _^_, _≤_, _<_, min, compare, Ordering, Ordering·lt, Ordering·eq, Ordering·gt}
-use native.Mathlib.Nat.{le-refl, le-trans, le-of-eq, le-of-lt, le-of-suc-le-suc, lt-of-lt-of-le, lt-of-le-of-lt, lt-of-not-le, not-le-of-lt, lt-irrefl, mul-assoc, mul-comm, mul-left-comm, mul-right-comm, mul-le-mul, mul-le-mul-right, mul-lt-mul-of-pos-right, mul-div-cancel, mul-pos, eq-of-mul-eq-mul-right, eq-or-lt-of-le, pow-succ', two-mul, mul-one, zero-mul}
+use mathlib.Core.Bool.{Bool, true, false, true≢false}
+use Prim.Native.Nat.{ℕ, zero, suc, _+_, _-_, _*_, _/_, _%_, _^_, _≤_, _<_, min, compare, Ordering}
+use native.Mathlib.Nat.{le-trans, le-of-suc-le-suc, lt-of-lt-of-le, lt-of-le-of-lt, mul-assoc, mul-comm, mul-left-comm, mul-right-comm, mul-le-mul-right, mul-lt-mul-of-pos-right, mul-div-cancel, mul-pos, eq-of-mul-eq-mul-right, mul-one, zero-mul}
 use native.Mathlib.Omega.{arith}
-use lib.Dec.{T, ltb, leb, eqb, lit≤, lit<, leb→le, nleb→lt, ltb→lt}
-use lib.Pow.{pow-add, pow-pos, pow-mono, pow-lt}
-use lib.IntN.{ℤ, pos}
-use lib.Ieee.{Float, nan, inf, fin, Format, binary32, binary64, prec, emax, low, hid, ones, top, up, down, size, nearest, odd, units, toBits, fits, isNan}
-use lib.Ieee.Fits.{down-pos, up-pos, odd-fits, cond-fits, inf-fits, nearest-le}
+use lib.Dec.{T, lit<}
+use lib.Pow.{pow-add, pow-pos}
+use lib.IntN.{ℤ}
+use lib.Ieee.{Float, nan, inf, fin, Format, binary32, binary64, prec, low, hid, ones, up, down, size, nearest, units, toBits, fits, isNan}
+use lib.Ieee.Fits.{down-pos, nearest-le}
 use lib.Ieee.Nearest.{nearest-ge}
 use lib.Ieee.Exact.{HasValue}
 use Rattle.ieee.specs.Sqrt.{root, halfway, nearestRoot, roundRoot, sqrt}
-use Rattle.ieee.proofs.Laws.{compare-lt, compare-eq, compare-gt, drop-is, units-bits}
-use Rattle.ieee.proofs.Signs.{Pattern, pattern, units-plain}
-use Rattle.ieee.proofs.Roots.{IsRoot, root-is, root-unique}
-
--- ---- squares keep the order
-pub square-lt : (a b : ℕ) → a * a < b * b → a < b
-square-lt a b h = lt-of-not-le (λ (g : b ≤ a). lt-irrefl (a * a) (lt-of-lt-of-le h (mul-le-mul g g)))
-
--- ---- `compare` of two multiples
-pub trichotomy : (a b : ℕ) → (a < b) ⊎ ((a ≡ b) ⊎ (b < a))
-trichotomy a b = go (leb b a) (leb→le b a) (nleb→lt b a)
-  where
-    go : (t : Bool) → (T t → b ≤ a) → (T (not t) → a < b) → (a < b) ⊎ ((a ≡ b) ⊎ (b < a))
-    go false h k = inl (k tt)
-    go true h k = elim (eq-or-lt-of-le (h tt)) [ inl e ↦ inr (inl (sym e)) | inr l ↦ inr (inr l) ]
-
-compare-scale : (a b u : ℕ) → 0 < u → compare (a * u) (b * u) ≡ compare a b
-compare-scale a b u U = elim (trichotomy a b) [
-  | inl l ↦ compare-lt (a * u) (b * u) (mul-lt-mul-of-pos-right l U) ∙ sym (compare-lt a b l)
-  | inr (inl e) ↦ compare-eq (a * u) (b * u) (ap (λ (x : ℕ). x * u) e) ∙ sym (compare-eq a b e)
-  | inr (inr g) ↦ compare-gt (a * u) (b * u) (mul-lt-mul-of-pos-right g U) ∙ sym (compare-gt a b g)
-]
+use Rattle.ieee.proofs.Naturals.{square-lt, pow-double, compare-scale}
+use Rattle.ieee.proofs.Units.{units-fits, units-plain}
+use Rattle.ieee.proofs.Patterns.{drop-is, units-bits}
+use Rattle.ieee.proofs.Reading.{Pattern, pattern}
+use Rattle.ieee.proofs.Roots.{root-is}
 
 -- ---- a value num / den that is N * 4 ^ k units squared, where N's root has all of the format's digits
 module _ (f : Format) (num den N k : ℕ) (D : 0 < den) (is : num * 2 ^ (2 * low f) ≡ N * 2 ^ (2 * k) * den) (lo : hid f * hid f ≤ N) (hi : N < 2 ^ prec f * 2 ^ prec f) where
@@ -45,7 +29,7 @@ module _ (f : Format) (num den N k : ℕ) (D : 0 < den) (is : num * 2 ^ (2 * low
   M = N * 2 ^ (2 * k)
 
   squares : (x : ℕ) → x * 2 ^ k * (x * 2 ^ k) ≡ x * x * 2 ^ (2 * k)
-  squares x = rw (two-mul k, pow-add 2 k k) (simp (mul-assoc, mul-comm, mul-left-comm))
+  squares x = rw (pow-double k) (simp (mul-assoc, mul-left-comm))
 
   whole : n / den ≡ M
   whole = ap (λ (x : ℕ). x / den) is ∙ mul-div-cancel M D
@@ -80,18 +64,9 @@ module _ (f : Format) (num den N k : ℕ) (D : 0 < den) (is : num * 2 ^ (2 * low
       ap (λ (x : ℕ). halfway n u (root x)) e
       ∙ ap (λ (o : Ordering). nearest r o) (ap (λ (x : ℕ). compare (4 * x) ((2 * r + 1) * (2 * r + 1) * u)) units-of ∙ ap (λ (x : ℕ). compare x ((2 * r + 1) * (2 * r + 1) * u)) (sym (mul-assoc 4 N u)) ∙ compare-scale (4 * N) ((2 * r + 1) * (2 * r + 1)) u U ∙ ap (λ (x : ℕ). compare (4 * N) x) (sym (mul-one ((2 * r + 1) * (2 * r + 1)))))
 
-  pub roundRoot-is : roundRoot f num den ≡ units f false (nearestRoot N) k
+  roundRoot-is : roundRoot f num den ≡ units f false (nearestRoot N) k
   unfolding roundRoot
   roundRoot-is = ap (λ (j : ℕ). units f false (halfway n (den * 2 ^ (2 * j)) (root (n / (den * 2 ^ (2 * j))))) j) drops ∙ ap (λ (x : ℕ). units f false x k) halved
-
--- ---- what `sqrt` gives is a value of the format
-units-fits : (f : Format) (q k : ℕ) → q ≤ 2 ^ prec f → T (fits f (units f false q k))
-unfolding units
-units-fits f q k a = go (ltb (q * 2 ^ k) (2 ^ (low f + suc (emax f)))) (ltb→lt (q * 2 ^ k) (2 ^ (low f + suc (emax f))))
-  where
-    go : (b : Bool) → (T b → q * 2 ^ k < 2 ^ (low f + suc (emax f))) → T (fits f (cond b (odd (suc (prec f)) false q k (low f)) (inf false)))
-    go true h = odd-fits f (suc (prec f)) false q k (lt-of-le-of-lt a (pow-lt (le-refl (suc (prec f))))) a (h tt)
-    go false h = inf-fits f false
 
 -- ---- a positive finite x, by its value A / C
 no-zero : (e : ℤ) (A C : ℕ) → 0 < A → 0 * up e * C ≡ A * down e → ⊥
@@ -104,7 +79,7 @@ no-zero e A C a h = go (A * down e) (mul-pos a (down-pos e)) (0 * up e * C) h (z
     go x p y a b = omega arith
 
 module _ (f : Format) (A C N k : ℕ) (a : 0 < A) (c : 0 < C) (is : A * 2 ^ (2 * low f) ≡ N * 2 ^ (2 * k) * C) (lo : hid f * hid f ≤ N) (hi : N < 2 ^ prec f * 2 ^ prec f) where
-  pub sqrt-is : (x : Float) → HasValue x false A C → sqrt f x ≡ units f false (nearestRoot N) k
+  sqrt-is : (x : Float) → HasValue x false A C → sqrt f x ≡ units f false (nearestRoot N) k
   unfolding sqrt
   sqrt-is nan v = absurd v
   sqrt-is (inf t) v = absurd v
@@ -124,15 +99,15 @@ module _ (f : Format) (A C N k : ℕ) (a : 0 < A) (c : 0 < C) (is : A * 2 ^ (2 *
   root-hi : root N < 2 ^ prec f
   root-hi = square-lt (root N) (2 ^ prec f) (lt-of-le-of-lt (root-is N .0) hi)
 
-  pub q-lo : hid f ≤ nearestRoot N
+  q-lo : hid f ≤ nearestRoot N
   unfolding nearestRoot
   q-lo = le-trans root-lo (nearest-ge (root N) (compare (4 * N) ((2 * root N + 1) * (2 * root N + 1) * 1)))
 
-  pub q-hi : nearestRoot N ≤ 2 ^ prec f
+  q-hi : nearestRoot N ≤ 2 ^ prec f
   unfolding nearestRoot
   q-hi = le-trans (nearest-le (root N) (compare (4 * N) ((2 * root N + 1) * (2 * root N + 1) * 1))) root-hi
 
-  pub sqrt-bits : k + 2 ≤ ones f → (x : Float) → HasValue x false A C → toBits f (sqrt f x) ≡ k * hid f + nearestRoot N
+  sqrt-bits : k + 2 ≤ ones f → (x : Float) → HasValue x false A C → toBits f (sqrt f x) ≡ k * hid f + nearestRoot N
   sqrt-bits K x v = ap (toBits f) (sqrt-is x v) ∙ units-bits f (nearestRoot N) k q-hi (inr (lead f (nearestRoot N) q-lo)) ∙ whole f k (nearestRoot N) K q-hi
     where
       lead : (f : Format) (q : ℕ) → hid f ≤ q → 2 ^ prec f ≤ 2 * q
@@ -143,13 +118,13 @@ module _ (f : Format) (A C N k : ℕ) (a : 0 < A) (c : 0 < C) (is : A * 2 ^ (2 *
       whole binary32 k q h l = omega arith
       whole binary64 k q h l = omega arith
 
-  pub sqrt-pattern : k + 2 ≤ ones f → (x : Float) → HasValue x false A C → (r : ℕ) → r ≡ k * hid f + nearestRoot N → Pattern f (sqrt f x) r
+  sqrt-pattern : k + 2 ≤ ones f → (x : Float) → HasValue x false A C → (r : ℕ) → r ≡ k * hid f + nearestRoot N → Pattern f (sqrt f x) r
   sqrt-pattern K x v r e =
-      pattern f (sqrt f x) r (rw (sqrt-is x v) (units-fits f (nearestRoot N) k q-hi)) (rw (sqrt-is x v) (units-plain f false (nearestRoot N) k)) (e ∙ sym (sqrt-bits K x v))
+      pattern f (sqrt f x) r (rw (sqrt-is x v) (units-fits f false (nearestRoot N) k q-hi)) (rw (sqrt-is x v) (units-plain f false (nearestRoot N) k)) (e ∙ sym (sqrt-bits K x v))
 
 -- for numbers too large for `omega`
 regroup : (m x a b c : ℕ) → m * x * (a * (b * c)) ≡ m * a * (x * b) * c
-regroup m x a b c = simp (mul-assoc, mul-comm, mul-left-comm)
+regroup m x a b c = simp (mul-assoc, mul-left-comm)
 
 -- ---- what the code makes of the last digit of e
 pub doubled : (d e : ℕ) → e % 2 ≡ 1 → d * 2 ≡ d * 2 ^ (e % 2)
@@ -176,7 +151,7 @@ module _ (digits e : ℕ) (lo : 2 ^ 52 ≤ digits) (hi : digits < 2 ^ 53) where
           no : (r : ℕ) → suc (suc r) < 2 → ⊥
           no r h = omega arith
 
-  pub m-lo : 2 ^ 52 ≤ m
+  m-lo : 2 ^ 52 ≤ m
   m-lo = elim parity [ inl z ↦ rw z (omega arith) | inr z ↦ rw z (omega arith) ]
 
   pub m-hi : m < 2 ^ 54
@@ -189,7 +164,7 @@ module _ (digits e : ℕ) (lo : 2 ^ 52 ≤ digits) (hi : digits < 2 ^ 53) where
       split : e ≡ e % 2 + 2 * (e / 2)
       split = omega arith
 
-  pub some : 0 < digits * 2 ^ e
+  some : 0 < digits * 2 ^ e
   some = mul-pos (lt-of-lt-of-le (lit< tt) lo) (pow-pos e)
 
   -- binary64: N is m * 4 ^ 53 / 2 ^ 54

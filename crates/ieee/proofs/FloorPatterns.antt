@@ -1,77 +1,36 @@
--- What the proof of `floor32` cites. Assumes nothing.
+-- `floor binary32`, as patterns: what floor32 makes of the 24 digits, cut at p, and of the sign (`floor-part`). The size cut depends on the size alone (`cut-same`), so p stands in for the denominator.
 use mathlib.Core.Path.{_≡_, refl, sym, ap, _∙_, subst}
+use mathlib.Core.Logic.{_⊎_, inl, inr}
 use mathlib.Core.Bool.{Bool, true, false, not, cond}
 use Prim.Native.Nat.{ℕ, zero, suc, _+_, _-_, _*_, _/_, _%_, _^_, _≤_, _<_}
-use native.Mathlib.Nat.{le-trans, le-of-eq, le-antisymm, le-of-suc-le-suc, lt-of-lt-of-le, mul-assoc, mul-comm, mul-left-comm, mul-right-comm, mul-one, mul-le-mul-right, le-of-mul-le-mul-right, div-lt-iff-lt-mul, div-mul-le-self, eq-of-mul-eq-mul-right, div-one, suc-mul, zero-lt-suc, div-add-mod', mod-lt, mod-eq-of-lt, eq-zero-or-pos, eq-or-lt-of-le, div-eq-of-lt, div-le-self, le-of-lt, mul-le-mul-left, mul-pos, zero-mul, add-zero}
+use native.Mathlib.Nat.{le-trans, le-of-eq, le-of-lt, le-antisymm, le-of-suc-le-suc, lt-of-lt-of-le, mul-assoc, mul-right-comm, mul-one, mul-le-mul-left, mul-le-mul-right, le-of-mul-le-mul-right, div-lt-iff-lt-mul, suc-mul, zero-lt-suc, mod-eq-of-lt, eq-zero-or-pos, eq-or-lt-of-le, div-eq-of-lt, div-le-self, mul-pos, zero-mul, add-zero}
 use native.Mathlib.Omega.{arith}
-use mathlib.Core.Logic.{_⊎_, inl, inr}
 use lib.Dec.{T, lit<, lit≤, le→leb, ltb, ltb→lt, nltb→le}
 use lib.Arith.{digits-div}
 use lib.IntN.{ℤ, pos}
 use lib.Pow.{pow-add, pow-pos, pow-mono, shl-lt}
 use lib.Ieee.{Float, nan, inf, fin, Format, binary32, prec, emax, low, up, down, round, fits, neg, ofInt, ofBits, toBits, inFloat, ne, isNan}
 use lib.Ieee.Bits.{ofBits-toBits, toBits-lt}
-use lib.Ieee.Compare.{differs-from-itself}
 use lib.Ieee.Fits.{down-pos, round-fits}
 use lib.Ieee.Back.{whole-unique}
 use lib.Ieee.Exact.{HasValue, round-exact}
 use lib.Ieee.Nearest.{div-same}
-use Rattle.ieee.specs.Floor.{floor}
-use Rattle.ieee.proofs.Laws.{yes}
-use Rattle.ieee.proofs.Reading.{read-low, read-high}
-use Rattle.ieee.proofs.Signs.{ofBits-neg, round-neg, in-size}
-
--- ---- a / b cut upward
-abbrev ceil : ℕ → ℕ → ℕ
-ceil a b = (a + (b - 1)) / b
-
-ceil-reaches : (a b : ℕ) → 0 < b → a ≤ ceil a b * b
-ceil-reaches a b B = go (ceil a b * b) ((a + (b - 1)) % b) (div-add-mod' (a + (b - 1)) b) (mod-lt (a + (b - 1)) B)
-  where
-    go : (x r : ℕ) → x + r ≡ a + (b - 1) → r < b → a ≤ x
-    go x r e h = omega arith
-
-ceil-least : (a b k : ℕ) → 0 < b → a ≤ k * b → ceil a b ≤ k
-ceil-least a b k B h = le-of-suc-le-suc (div-lt-iff-lt-mul B .1 (subst (λ (x : ℕ). a + (b - 1) < x) (sym (suc-mul k b)) (go (k * b) h)))
-  where
-    go : (x : ℕ) → a ≤ x → a + (b - 1) < x + b
-    go x h = omega arith
-
-ceil-mono : (a b c d : ℕ) → 0 < b → 0 < d → a * d ≤ c * b → ceil a b ≤ ceil c d
-ceil-mono a b c d B D h = ceil-least a b (ceil c d) B (le-of-mul-le-mul-right (le-trans h (le-trans (mul-le-mul-right b (ceil-reaches c d D)) (le-of-eq (mul-right-comm (ceil c d) d b)))) D)
-
-ceil-same : (a b c d : ℕ) → 0 < b → 0 < d → a * d ≡ c * b → ceil a b ≡ ceil c d
-ceil-same a b c d B D e = le-antisymm (ceil-mono a b c d B D (le-of-eq e)) (ceil-mono c d a b D B (le-of-eq (sym e)))
-
--- cut downward, or upward for a negative number
-abbrev pub cut : Bool → ℕ → ℕ → ℕ
-cut s a b = (a + cond s (b - 1) 0) / b
-
-cut-same : (s : Bool) (a b c d : ℕ) → 0 < b → 0 < d → a * d ≡ c * b → cut s a b ≡ cut s c d
-cut-same true a b c d B D e = ceil-same a b c d B D e
-cut-same false a b c d B D e = ap (λ (x : ℕ). x / b) (plain a) ∙ div-same a b c d B D e ∙ sym (ap (λ (x : ℕ). x / d) (plain c))
-  where
-    plain : (a : ℕ) → a + 0 ≡ a
-    plain a = omega arith
+use Rattle.ieee.specs.Floor.{cut, floor}
+use Rattle.ieee.proofs.Tests.{nan-is}
+use Rattle.ieee.proofs.Values.{value-neg, rescale}
+use Rattle.ieee.proofs.Units.{round-neg}
+use Rattle.ieee.proofs.Reading.{read-low, read-high, ofBits-neg, in-size}
+use Rattle.ieee.proofs.Cuts.{cut-same, cut-le}
 
 -- ---- `floor` sees only the value
-pub floor-value : (f : Format) (x : Float) (s : Bool) (a c : ℕ) → 0 < c → HasValue x s a c → floor f x ≡ round f s (cut s a c) 1
+floor-value : (f : Format) (x : Float) (s : Bool) (a c : ℕ) → 0 < c → HasValue x s a c → floor f x ≡ round f s (cut s a c) 1
 unfolding floor
 floor-value f nan s a c C v = absurd v
 floor-value f (inf t) s a c C v = absurd v
 floor-value f (fin t m e) s a c C v = ap (λ (b : Bool). round f b (cut b (m * up e) (down e)) 1) (v .0) ∙ ap (λ (w : ℕ). round f s w 1) (cut-same s (m * up e) (down e) a c (down-pos e) C (v .1))
 
-pub rescale : (x : Float) (s : Bool) (w l num den : ℕ) → 0 < l → num * l ≡ w * den → HasValue x s w l → HasValue x s num den
-rescale nan s w l num den p h v = v
-rescale (inf t) s w l num den p h v = v
-rescale (fin t m e) s w l num den p h v = (
-  v .0,
-  eq-of-mul-eq-mul-right l p (m * up e * den) (num * down e)
-      (mul-right-comm (m * up e) den l ∙ ap (λ (x : ℕ). x * den) (v .1) ∙ mul-right-comm w (down e) den ∙ ap (λ (x : ℕ). x * down e) (sym h) ∙ mul-right-comm num l (down e)),
-)
-
 -- ---- a whole number stays
-pub floor-whole : (f : Format) (x : Float) (s : Bool) (q j w : ℕ) → T (fits f x) → HasValue x s w 1 → w * 2 ^ low f ≡ q * 2 ^ j → q < 2 ^ prec f → q * 2 ^ j < 2 ^ (low f + suc (emax f)) → x ≡ floor f x
+floor-whole : (f : Format) (x : Float) (s : Bool) (q j w : ℕ) → T (fits f x) → HasValue x s w 1 → w * 2 ^ low f ≡ q * 2 ^ j → q < 2 ^ prec f → q * 2 ^ j < 2 ^ (low f + suc (emax f)) → x ≡ floor f x
 floor-whole f x s q j w F v e Q O =
     whole-unique f x (round f s w 1) s w F (round-fits f s w 1) v (round-exact f s w 1 q j (zero-lt-suc 0) Q O (e ∙ sym (mul-one (q * 2 ^ j))))
     ∙ sym (floor-value f x s w 1 (zero-lt-suc 0) v ∙ ap (λ (y : ℕ). round f s y 1) (same s))
@@ -80,13 +39,7 @@ floor-whole f x s q j w F v e Q O =
     same true = omega arith
     same false = omega arith
 
--- ---- an f32 that is no NaN, by its pattern b, with a = b without the sign
-flip-value : (v : Float) (A C : ℕ) → HasValue v false A C → HasValue (neg v) true A C
-unfolding neg
-flip-value nan A C h = h
-flip-value (inf s) A C h = h
-flip-value (fin s m e) A C h = (ap not (h .0), h .1)
-
+-- ---- infinities
 flip-inf : neg (inf false) ≡ inf true
 unfolding neg
 flip-inf = refl
@@ -99,7 +52,7 @@ floor-inf : (s : Bool) → inf s ≡ floor binary32 (inf s)
 unfolding floor
 floor-inf s = refl
 
--- x has the size of the pattern a, and the sign s
+-- ---- x has the size of the pattern a, and the sign s
 abbrev pub Sized : Float → Bool → ℕ → Type 0
 Sized x s a = ((A C : ℕ) → HasValue (ofBits binary32 a) false A C → HasValue x s A C) × (ofBits binary32 a ≡ inf false → x ≡ inf s)
 
@@ -117,7 +70,7 @@ module _ (x : Float) (F : T (fits binary32 x)) where
       let W : b < 2 ^ 32 = toBits-lt binary32 x F in
       let m : b - 2 ^ 31 ≡ b % 2 ^ 31 = omega arith in
       let e : neg (ofBits binary32 (b % 2 ^ 31)) ≡ x = ap (λ (y : ℕ). neg (ofBits binary32 y)) (sym m) ∙ sym (ofBits-neg binary32 b h W) ∙ ofBits-toBits binary32 x F in
-      (λ A C v. subst (λ (y : Float). HasValue y true A C) e (flip-value (ofBits binary32 (b % 2 ^ 31)) A C v), λ i. sym e ∙ ap neg i ∙ flip-inf)
+      (λ A C v. subst (λ (y : Float). HasValue y true A C) e (value-neg (ofBits binary32 (b % 2 ^ 31)) false A C v), λ i. sym e ∙ ap neg i ∙ flip-inf)
 
 module _ (x : Float) (F : T (fits binary32 x)) (s : Bool) (a : ℕ) (A : a ≤ 0x7f80_0000) (S : Sized x s a) where
   abbrev field : ℕ
@@ -186,13 +139,15 @@ module _ (x : Float) (F : T (fits binary32 x)) (s : Bool) (a : ℕ) (A : a ≤ 0
       go (inr q) = both (digits * 2 ^ (field - 1)) (mul-pos (omega arith) (pow-pos (field - 1))) (lt-of-lt-of-le (shl-lt 24 (field - 1) digits-lt) (pow-mono {j = 149} (omega arith))) (high q (omega arith))
 
   -- ---- the cast: at most 2 ^ 24
-  pub down-in : (p : ℕ) → 0 < p → T (inFloat binary32 (pos (digits / p)))
+  cast : (n : ℕ) → n ≤ digits → T (inFloat binary32 (pos n))
   unfolding inFloat
-  down-in p P = le→leb (digits / p) (2 ^ 24) (le-trans (div-le-self digits p) (le-of-lt digits-lt))
+  cast n h = le→leb n (2 ^ 24) (le-trans h (le-of-lt digits-lt))
+
+  pub down-in : (p : ℕ) → 0 < p → T (inFloat binary32 (pos (digits / p)))
+  down-in p P = cast (digits / p) (div-le-self digits p)
 
   pub up-in : (p : ℕ) → 0 < p → T (inFloat binary32 (pos ((digits + (p - 1)) / p)))
-  unfolding inFloat
-  up-in p P = le→leb ((digits + (p - 1)) / p) (2 ^ 24) (le-trans (ceil-least digits p digits P (le-trans (le-of-eq (sym (mul-one digits))) (mul-le-mul-left digits P))) (le-of-lt digits-lt))
+  up-in p P = cast ((digits + (p - 1)) / p) (cut-le true digits p P)
 
 pub down-is : (n p : ℕ) → ofInt binary32 (pos (n / p)) ≡ round binary32 false (cut false n p) 1
 unfolding ofInt
@@ -204,7 +159,7 @@ up-is n p = sym (round-neg binary32 false ((n + (p - 1)) / p) 1)
 
 pub floor-nan : (x : Float) → ne x x ≡ true → x ≡ floor binary32 x
 unfolding floor
-floor-nan x h = rw (differs-from-itself x (yes h))
+floor-nan x h = rw (nan-is x h)
 
 -- ---- the p of the code
 abbrev pub Part : ℕ → ℕ → Type 0
