@@ -1,10 +1,11 @@
 //! compare [TOPIC..] [--seconds S | --count N] [--seed S]    runs topics beside the original (none named: those of the gate)
-//! compare --store TOPIC                                     writes the topic's stored answers
+//! compare --store TOPIC                                     writes the topic's stored answers into crates/stored_TOPIC
 //! compare --speed TOPIC                                     times the topic's calls beside the original's
 //!
 //! Without --seconds and --count each kind of call is run on as many inputs as its topic sets for the gate. --count sets that
 //! number. --seconds runs smaller turns, each with a seed of its own, until the time is over. The first difference ends the
-//! run with status 1 and is printed as a call, with floats as hexadecimal patterns.
+//! run with status 1 and is printed as a call, with floats as hexadecimal patterns. At the gate's size the stored answers are
+//! held to what --store would write.
 
 mod random;
 mod topics;
@@ -13,6 +14,7 @@ mod value;
 use random::Random;
 use std::{
     collections::BTreeMap,
+    fs,
     process::exit,
     time::{Duration, Instant},
 };
@@ -24,10 +26,22 @@ pub struct Topic {
     /// Whether it runs where no topic is named.
     pub gate: bool,
     pub compare: fn(&mut Run),
-    /// The lines of its stored answers.
-    pub store: Option<fn() -> Vec<String>>,
+    pub store: Option<fn() -> Stored>,
     /// Prints times.
     pub speed: Option<fn()>,
+}
+
+/// A list that the program `stored_TOPIC` replays, and what the program says of it.
+#[derive(Default)]
+pub struct Stored {
+    pub stdin: String,
+    pub stdout: String,
+}
+
+impl Stored {
+    fn files(self, topic: &str) -> [(String, String); 2] {
+        [("stdin", self.stdin), ("stdout", self.stdout)].map(|(name, text)| (format!("crates/stored_{topic}/{name}"), text))
+    }
 }
 
 /// How long to go on.
@@ -89,6 +103,17 @@ impl Run {
         self.count(what, n);
     }
 
+    /// Holds the list in the repository, and what its program is to say, to what the topic stores now.
+    fn stored(&mut self, stored: Stored) {
+        for (path, text) in stored.files(self.topic) {
+            if fs::read_to_string(&path).ok().as_ref() != Some(&text) {
+                println!("compare: {path} is not what compare --store {} writes", self.topic);
+                exit(1);
+            }
+            self.count("lines stored", text.lines().count() as u64);
+        }
+    }
+
     /// Adds to a count that is printed at the end.
     pub fn count(&mut self, what: &str, n: u64) {
         *self.counts.entry(format!("{} {what}", self.topic)).or_default() += n;
@@ -134,8 +159,12 @@ fn main() {
             "--count" => limit = Limit::Count(number(next())),
             "--seed" => seed = number(next()),
             "--store" => {
-                let store = topic(&next()).store.unwrap_or_else(|| stop("the topic stores nothing"));
-                return store().iter().for_each(|line| println!("{line}"));
+                let topic = topic(&next());
+                let store = topic.store.unwrap_or_else(|| stop("the topic stores nothing"));
+                for (path, text) in store().files(topic.name) {
+                    fs::write(&path, text).unwrap_or_else(|e| stop(&format!("{path}: {e}")));
+                }
+                return;
             }
             "--speed" => return topic(&next()).speed.unwrap_or_else(|| stop("the topic times nothing"))(),
             name => chosen.push(topic(name)),
@@ -150,6 +179,9 @@ fn main() {
         for topic in &chosen {
             run.topic = topic.name;
             (topic.compare)(&mut run);
+            if let (Limit::Gate, Some(store)) = (limit, topic.store) {
+                run.stored(store());
+            }
         }
         run.turn += 1;
         if run.over() {

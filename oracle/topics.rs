@@ -1,6 +1,6 @@
 //! The topics: a file each, named here.
 
-use crate::{random, value::Value, Run, Topic};
+use crate::{random, value::Value, Run, Stored, Topic};
 
 mod edge;
 mod floats;

@@ -1,9 +1,9 @@
 //! The float helpers beside the hardware's own operations: all special values and all pairs of them, then seeded inputs.
 
-use super::{random::*, Run, Topic, Value};
+use super::{random::*, Run, Stored, Topic, Value};
 use std::{hint::black_box, iter::repeat_with, time::Instant};
 
-pub const TOPIC: Topic = Topic { name: "floats", gate: true, compare, store: None, speed: Some(speed) };
+pub const TOPIC: Topic = Topic { name: "floats", gate: true, compare, store: Some(store), speed: Some(speed) };
 
 unsafe extern "C" {
     pub safe fn vuzgari_compare_sqrt32(x: f32) -> f32;
@@ -111,6 +111,69 @@ fn order<A: Value + Copy + PartialEq>(
     };
     two(run, what, specials, input, |&(a, b)| ours(a, b), read);
     run.count(&format!("{what} that hang on which NaN it is"), apart);
+}
+
+/// The helpers in the order of their letters, from a on: name, whether the arguments are f64, and the hardware's answer as a
+/// pattern. All NaNs of an answer are written as the quiet one, and a NaN that is put in order is read as that one.
+const STORED: [(&str, bool, fn(u64, u64) -> u64); 11] = [
+    ("sqrt32", false, |a, _| bits32(single(a).sqrt())),
+    ("sqrt64", true, |a, _| bits64(double(a).sqrt())),
+    ("to_f32", true, |a, _| bits32(double(a) as f32)),
+    ("floor32", false, |a, _| bits32(single(a).floor())),
+    ("abs64", true, |a, _| bits64(double(a).abs())),
+    ("is_finite32", false, |a, _| single(a).is_finite().into()),
+    ("max32", false, |a, b| bits32(single(a).max(single(b)))),
+    ("max64", true, |a, b| bits64(double(a).max(double(b)))),
+    ("min32", false, |a, b| bits32(single(a).min(single(b)))),
+    ("total_less32", false, |a, b| single(bits32(single(a))).total_cmp(&single(bits32(single(b)))).is_lt().into()),
+    ("total_less64", true, |a, b| double(bits64(double(a))).total_cmp(&double(bits64(double(b)))).is_lt().into()),
+];
+
+fn single(a: u64) -> f32 {
+    f32::from_bits(a as u32)
+}
+
+fn double(a: u64) -> f64 {
+    f64::from_bits(a)
+}
+
+fn bits32(x: f32) -> u64 {
+    if x.is_nan() { 0x7fc0_0000 } else { x.to_bits().into() }
+}
+
+fn bits64(x: f64) -> u64 {
+    if x.is_nan() { 0x7ff8_0000_0000_0000 } else { x.to_bits() }
+}
+
+/// Each helper under its small letter: every special value, with a second one picked, then seeded inputs. Then some with the
+/// answer's last bit altered, under the capital letter. Nothing is stored of two zeros, where the answer's sign is open.
+fn store() -> Stored {
+    const GOOD: usize = 100;
+    const ALTERED: usize = 6;
+    let mut stored = Stored::default();
+    let mut random = Random::new(1);
+    for (letter, (name, wide, answer)) in ('a'..).zip(STORED) {
+        let specials: Vec<u64> = match wide {
+            false => specials32().map(|x| x.to_bits().into()).into(),
+            true => specials64().map(f64::to_bits).into(),
+        };
+        let seeded = |random: &mut Random| if wide { random.f64().to_bits() } else { random.f32().to_bits().into() };
+        let is_zero = |a: u64| if wide { double(a) == 0.0 } else { single(a) == 0.0 };
+        for k in 0..GOOD + ALTERED {
+            let a = specials.get(k).copied().unwrap_or_else(|| seeded(&mut random));
+            let b = loop {
+                let b = if k < specials.len() { random.pick(&specials) } else { seeded(&mut random) };
+                if !(is_zero(a) && is_zero(b)) {
+                    break b;
+                }
+            };
+            let (letter, altered) = if k < GOOD { (letter, 0) } else { (letter.to_ascii_uppercase(), 1) };
+            stored.stdin += &format!("{letter} {a:016x} {b:016x} {:016x}\n", answer(a, b) ^ altered);
+        }
+        stored.stdout += &format!("{name}: {GOOD} agree, 0 differ; altered: 0 agree, {ALTERED} differ\n");
+    }
+    stored.stdout += &format!("{} lines, 0 bytes over\n", stored.stdin.lines().count());
+    stored
 }
 
 /// Nanoseconds for a call, of independent calls one after the other, ours and the hardware's in turns; the median of the turns.

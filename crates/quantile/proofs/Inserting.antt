@@ -15,7 +15,7 @@ use Rattle.laws.proofs.Choice.{chosen, passed}
 use Rattle.quantile.specs.Rising.{at, inserted, rising, Rises}
 use Rattle.quantile.specs.Quantile.{stride, taken, quiet}
 use Rattle.quantile.proofs.Orders.{upto}
-use Rattle.ieee.proofs.Sqrts.{trichotomy}
+use Rattle.ieee.proofs.Naturals.{trichotomy}
 use Rattle.quantile.proofs.Rises.{first, after, slot, slot-is, rises-upto, rising-rises, length-inserted}
 
 one-more : (j : ℕ) → 0 < j → suc (j - 1) ≡ j

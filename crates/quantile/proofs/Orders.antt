@@ -14,7 +14,8 @@ use lib.Ieee.Nearest.{div-same}
 use lib.Ieee.Positive.{through}
 use borrow.Author.Tests.{lt-ltb, le-ltb, ltb-true, ltb-false, eq-eqb, ne-eqb}
 use Rattle.ieee.specs.Order.{totalLess, negative}
-use Rattle.ieee.proofs.Sqrts.{trichotomy}
+use Rattle.ieee.proofs.Naturals.{trichotomy}
+use Rattle.ieee.proofs.TotalOrder.{transitive, irreflexive}
 
 -- minus infinity, the finite ones with a minus, those without, infinity, no number
 abbrev rank : Float → ℕ
@@ -142,22 +143,12 @@ module _ (x y : Float) where
   not-below (plus e o h) =
       less-is y x ∙ elsewhere (rank y) (rank x) (over x y) (over y x) (sym e) (λ (u : rank y ≡ 1). o (e ∙ u)) ∙ le-ltb (num y * den x) (num x * den y) h
 
-  -- x is below y
-  upto-below : totalLess x y ≡ true → Upto x y
-  upto-below h = elim (trichotomy (rank x) (rank y)) [
-    | inl l ↦ apart l
-    | inr (inl e) ↦ ties e (elim (trichotomy (rank x) 1) [ inl l ↦ inr (omega arith) | inr (inl o) ↦ inl o | inr (inr l) ↦ inr (omega arith) ])
-    | inr (inr l) ↦ absurd (true≢false (sym test ∙ higher (rank x) (rank y) (over y x) (over x y) l))
-    ]
-    where
-      test : byRank (rank x) (rank y) (over y x) (over x y) ≡ true
-      test = sym (less-is x y) ∙ h
-      ties : rank x ≡ rank y → (rank x ≡ 1) ⊎ (rank x ≡ 1 → ⊥) → Upto x y
-      ties e (inl o) = minus o (sym e ∙ o) (omega (arith, ltb-true (num y * den x) (num x * den y) (sym (at-one (rank x) (rank y) (over y x) (over x y) e o) ∙ test)))
-      ties e (inr o) = plus e o (omega (arith, ltb-true (num x * den y) (num y * den x) (sym (elsewhere (rank x) (rank y) (over y x) (over x y) e o) ∙ test)))
-
-  pub asymmetric : totalLess x y ≡ true → totalLess y x ≡ false
-  asymmetric h = not-below (upto-below h)
+pub asymmetric : (x y : Float) → totalLess x y ≡ true → totalLess y x ≡ false
+asymmetric x y h = go (totalLess y x) refl
+  where
+    go : (b : Bool) → totalLess y x ≡ b → b ≡ false
+    go true e = absurd (true≢false (sym (transitive x y x h e) ∙ irreflexive x))
+    go false e = refl
 
 pub upto : (x y z : Float) → totalLess y x ≡ false → totalLess z y ≡ false → totalLess z x ≡ false
 upto x y z p q = not-below x z (upto-trans x y z (upto-of x y p) (upto-of y z q))

@@ -11,6 +11,7 @@ use borrow.Author.Tests.{not-true}
 use lib.ListN.{length}
 use lib.Ieee.{Float, nan, inf, fin, Format, fits, isNan}
 use Rattle.ieee.specs.Order.{totalLess}
+use Rattle.ieee.proofs.TotalOrder.{irreflexive}
 use Rattle.laws.proofs.Choice.{chosen, passed, cond-both}
 use Rattle.quantile.specs.Tally.{tally}
 use Rattle.quantile.specs.Rising.{at, inserted, rising, Rises}
@@ -28,13 +29,6 @@ after v x y = cond (totalLess v x) x (first v y)
 abbrev pub slot : Float → List Float → ℕ → Float
 slot v l zero = first v (at l 0)
 slot v l (suc i) = after v (at l i) (at l (suc i))
-
-pub irreflexive : (x : Float) → totalLess x x ≡ false
-irreflexive x = go (totalLess x x) refl
-  where
-    go : (b : Bool) → totalLess x x ≡ b → b ≡ false
-    go true e = sym e ∙ asymmetric x x e
-    go false e = refl
 
 pub rises-upto : (l : List Float) → Rises l → (j i : ℕ) → i ≤ j → totalLess (at l j) (at l i) ≡ false
 rises-upto l R zero i h = subst (λ (k : ℕ). totalLess (at l 0) (at l k) ≡ false) (none i h) (irreflexive (at l 0))

@@ -1,10 +1,9 @@
 -- Worked examples of rising order and of the quiet level.
 use mathlib.Core.Path.{_≡_, refl}
-use mathlib.Core.Bool.{true, false, cond}
+use mathlib.Core.Bool.{true, false}
 use mathlib.Core.List.{List, [], _∷_}
-use Prim.Native.Nat.{ℕ, _*_, _+_, _%_}
-use lib.IntN.{pos}
-use lib.Ieee.{Float, nan, inf, fin, binary32, round, neg, lt, eq, isNan}
+use Prim.Native.Nat.{ℕ, _*_, _+_, _-_, _%_}
+use lib.Ieee.{Float, nan, inf, binary32, round, neg, lt, eq, isNan}
 use Rattle.ieee.specs.Order.{totalLess, negative}
 use Rattle.laws.specs.Lists.{from}
 use Rattle.quantile.specs.Rising.{at, rising}
@@ -37,7 +36,11 @@ pub second : quiet (from (λ (k : ℕ). f (7 * k % 16 + 3)) 0 16) ≡ f 4
 unfolding quiet totalLess negative lt eq isNan round
 second = refl
 
--- of 300 gates that fall from 300 to 1 those at 0, 2, 4, .. are taken: 150 of them, 2 to 300, of which the tenth least is 20
-pub every-other : quiet (from (λ (k : ℕ). round binary32 false 300 1) 0 0) ≡ nan
-unfolding quiet
+-- of 300 gates that fall from 300 to 1 every other one is taken: 300, 298, .. , 2, and the tenth least of these is 20
+pub every-other : quiet (from (λ (k : ℕ). f (300 - k)) 0 300) ≡ f 20
+unfolding quiet totalLess negative lt eq isNan round
 every-other = refl
+
+pub none : quiet [] ≡ nan
+unfolding quiet
+none = refl

@@ -1,0 +1,163 @@
+-- What the loops over the bands keep, and the answer by its stages. Assumes nothing.
+use mathlib.Core.Path.{_≡_, refl, sym, ap, _∙_, subst}
+use mathlib.Core.Bool.{Bool, true, false, cond}
+use mathlib.Core.List.{List, [], _∷_, _++_, append-assoc, append-nil}
+use Prim.Native.Nat.{ℕ, zero, suc, _+_, _-_, _/_, _%_, _≤_, _<_}
+use native.Mathlib.Omega.{arith}
+use native.Mathlib.Numerals.{add-one}
+use lib.Dec.{eqb, ltb}
+use lib.ListN.{length, getD, take, drop, set, length-append, length-set, drop-of-length-le}
+use lib.Seq.{take-suc-set, drop-cons, length-take-le, getD-take}
+use lib.Ieee.{Float, nan, binary64, add, mul, le}
+use borrow.Author.Tests.{eq-eqb, ne-eqb, lt-ltb, le-ltb}
+use Rattle.laws.proofs.Choice.{chosen, passed, cond-both}
+use Rattle.quantile.specs.Rising.{at, rising}
+use Rattle.quantile.proofs.Inserting.{rising-same}
+use Rattle.rounds.specs.Numbers.{whole}
+use Rattle.rounds.specs.declared.Total.{Total}
+use Rattle.rounds.specs.declared.Found.{Found}
+use Rattle.rounds.specs.declared.Found.the-variants.{Variance, Missing}
+use Rattle.joining.specs.Numbers.{half}
+use Rattle.joining.specs.Joining.{varianceOf, variances, middle, median, lid, withBand, withFound, joinFrom, nothing, joined, minSamples, deviation, decided, sigmaOf, countOf, counts}
+use Rattle.joining.specs.declared.Sigma.{Sigma}
+use Rattle.joining.specs.declared.Sigma.the-variants.{Figure, Number}
+
+-- ---- the variances that there are
+
+pub push-one : (vars : List Float) (n : ℕ) (var : Float) (f : Found) (m : ℕ) → n < length vars → f ≡ Variance m var
+    → (take (n + 1) (set vars n var) ≡ take n vars ++ varianceOf f) × (n + 1 ≤ n + 1) × (length (set vars n var) ≡ length vars)
+push-one vars n var f m h e =
+    (ap (λ (k : ℕ). take k (set vars n var)) (add-one n) ∙ take-suc-set vars n var h ∙ sym (ap (λ (x : Found). take n vars ++ varianceOf x) e), omega arith, length-set vars n var)
+
+pub push-none : (vars : List Float) (n : ℕ) (f : Found) → f ≡ Missing → take n vars ≡ take n vars ++ varianceOf f
+push-none vars n f e = sym (append-nil (take n vars)) ∙ sym (ap (λ (x : Found). take n vars ++ varianceOf x) e)
+
+-- b of 4 bands are done, and n of those have a variance
+pub record Collected (bands : List Found) (vars : List Float) (n b : ℕ) : Type 0 where
+  pub low : b ≤ 4
+  pub few : n ≤ b
+  pub long : length vars ≡ 4
+  pub left : take n vars ++ variances (drop b bands) ≡ variances bands
+
+pub collected-start : (bands : List Found) (vars : List Float) → length vars ≡ 4 → Collected bands vars 0 0
+collected-start bands vars e = record { low = omega arith; few = omega arith; long = e; left = refl }
+
+next-band : (bands : List Found) (b : ℕ) (d : Found) → b < length bands → drop b bands ≡ getD bands b d ∷ drop (b + 1) bands
+next-band bands b d h = drop-cons bands b d h ∙ sym (ap (λ (k : ℕ). getD bands b d ∷ drop k bands) (add-one b))
+
+module _ {bands : List Found} {vars : List Float} {n b : ℕ} (c : Collected bands vars n b) (e : length bands ≡ 4) where
+  pub collected-more : b < 4 → {vars′ : List Float} {m : ℕ} (d : Found) → take m vars′ ≡ take n vars ++ varianceOf (getD bands b d) → m ≤ n + 1 → length vars′ ≡ 4
+      → Collected bands vars′ m (b + 1)
+  collected-more h {vars′} {m} d q f g =
+      record {
+      low = omega arith;
+      few = omega (arith, c .few);
+      long = g;
+      left = ap (λ (l : List Float). l ++ variances (drop (b + 1) bands)) q ∙ append-assoc (take n vars) (varianceOf (getD bands b d)) (variances (drop (b + 1) bands))
+        ∙ sym (ap (λ (l : List Found). take n vars ++ variances l) (next-band bands b d (omega (arith, e)))) ∙ c .left }
+
+  pub collected-end : 4 ≤ b → (take n vars ≡ variances bands) × (n ≤ 4) × (length vars ≡ 4)
+  collected-end h =
+      (sym (append-nil (take n vars)) ∙ sym (ap (λ (l : List Found). take n vars ++ variances l) (drop-of-length-le bands {i = b} (omega (arith, e)))) ∙ c .left, omega (arith, c .few, c .low), c .long)
+
+-- ---- the median
+
+abbrev two : List Float → ℕ → Float
+two l n = mul binary64 half (add binary64 (at l (n / 2 - 1)) (at l (n / 2)))
+
+module _ (vars : List Float) (n : ℕ) (long : length vars ≡ 4) (h : n ≤ 4) where
+  median-by : middle (rising (at vars) n) n ≡ median (take n vars)
+  unfolding median
+  median-by = ap (λ (r : List Float). middle r n) in-order ∙ sym (ap (λ (k : ℕ). middle (rising (at (take n vars)) k) k) first-n)
+    where
+      first-n : length (take n vars) ≡ n
+      first-n = length-take-le n vars (omega (arith, long))
+      in-order : rising (at vars) n ≡ rising (at (take n vars)) n
+      in-order = rising-same (at vars) (at (take n vars)) n (λ i k. sym (getD-take n vars i nan k))
+
+  module _ (l : List Float) (same : (i : ℕ) → i < 4 → at l i ≡ at (rising (at vars) n) i) where
+    pub median-odd : n % 2 ≡ 1 → at l (n / 2) ≡ median (take n vars)
+    median-odd o =
+        same (n / 2) (omega arith) ∙ chosen (eqb (n % 2) 1) (at (rising (at vars) n) (n / 2)) (two (rising (at vars) n) n) (eq-eqb (n % 2) 1 o) ∙ median-by
+
+    pub median-even : (n % 2 ≡ 1 → ⊥) → two l n ≡ median (take n vars)
+    median-even o =
+        ap (λ (x : Float). mul binary64 half (add binary64 x (at l (n / 2)))) (same (n / 2 - 1) (omega arith))
+        ∙ ap (λ (x : Float). mul binary64 half (add binary64 (at (rising (at vars) n) (n / 2 - 1)) x)) (same (n / 2) (omega arith))
+        ∙ passed (eqb (n % 2) 1) (at (rising (at vars) n) (n / 2)) (two (rising (at vars) n) n) (ne-eqb (n % 2) 1 o) ∙ median-by
+
+-- ---- the bands that are joined
+
+module _ (most : Float) (k : Total) (f : Found) where
+  pub band-in : (n : ℕ) (var : Float) → f ≡ Variance n var → le var most ≡ true → {w : Float} → w ≡ whole n
+      → _≡_ {A = Total} (record { n = k .n + n; sum = add binary64 (k .sum) (mul binary64 w var) }) (withFound most k f)
+  band-in n var e t q =
+      ap (λ (x : Float). with-weight x) q ∙ chosen (le var most) (withBand k n var) k t ∙ sym (ap (withFound most k) e)
+    where
+      with-weight : Float → Total
+      with-weight x = record { n = k .n + n; sum = add binary64 (k .sum) (mul binary64 x var) }
+
+  pub band-out : (n : ℕ) (var : Float) → f ≡ Variance n var → le var most ≡ false → k ≡ withFound most k f
+  band-out n var e t = passed (le var most) (withBand k n var) k t ∙ sym (ap (withFound most k) e)
+
+  pub band-none : f ≡ Missing → k ≡ withFound most k f
+  band-none e = sym (ap (withFound most k) e)
+
+pub count-is : (f : Found) {n : ℕ} {var : Float} → f ≡ Variance n var → countOf f ≡ n
+count-is f e = ap countOf e
+
+found-few : (most : Float) (k : Total) (f : Found) → withFound most k f .n ≤ k .n + countOf f
+found-few most k (Variance n var) = cond-both (λ (x : Total). x .n ≤ k .n + n) (le var most) (withBand k n var) k (omega arith) (omega arith)
+found-few most k Missing = omega arith
+
+-- no more windows are joined than the bands admit
+pub join-few : (most : Float) (k : Total) (bands : List Found) → joinFrom most k bands .n ≤ k .n + counts bands
+join-few most k [] = omega arith
+join-few most k (f ∷ bands) = omega (arith, found-few most k f, join-few most (withFound most k f) bands)
+
+pub record Joining (most : Float) (bands : List Found) (k : Total) (b : ℕ) : Type 0 where
+  pub low : b ≤ 4
+  pub few : k .n + counts (drop b bands) ≤ counts bands
+  pub left : joinFrom most k (drop b bands) ≡ joinFrom most nothing bands
+
+pub joining-start : (most : Float) (bands : List Found) → Joining most bands nothing 0
+joining-start most bands = record { low = omega arith; few = omega arith; left = refl }
+
+module _ {most : Float} {bands : List Found} {k : Total} {b : ℕ} (j : Joining most bands k b) (e : length bands ≡ 4) where
+  pub joining-room : b < 4 → (d : Found) → k .n + countOf (getD bands b d) ≤ counts bands
+  joining-room h d = omega (arith, j .few, ap counts (next-band bands b d (omega (arith, e))))
+
+  pub joining-more : b < 4 → {k′ : Total} (d : Found) → k′ ≡ withFound most k (getD bands b d) → Joining most bands k′ (b + 1)
+  joining-more h {k′} d q =
+      record {
+      low = omega arith;
+      few = omega (arith, j .few, ap counts (next-band bands b d (omega (arith, e))), found-few most k (getD bands b d), ap (λ (x : Total). x .n) q);
+      left = ap (λ (x : Total). joinFrom most x (drop (b + 1) bands)) q ∙ sym (ap (joinFrom most k) (next-band bands b d (omega (arith, e)))) ∙ j .left }
+
+  pub joining-end : 4 ≤ b → k ≡ joinFrom most nothing bands
+  joining-end h = sym (ap (joinFrom most k) (drop-of-length-le bands {i = b} (omega (arith, e)))) ∙ j .left
+
+-- ---- the answer
+
+pub decided-thin : (k : Total) → k .n < minSamples → Number 7 ≡ decided k
+unfolding decided
+decided-thin k h = chosen (ltb (k .n) minSamples) (Number 7) (Figure (deviation k)) (lt-ltb (k .n) minSamples h)
+
+pub decided-is : (k : Total) → minSamples ≤ k .n → {s : Float} → s ≡ deviation k → Figure s ≡ decided k
+unfolding decided
+decided-is k h e = ap Figure e ∙ passed (ltb (k .n) minSamples) (Number 7) (Figure (deviation k)) (le-ltb (k .n) minSamples h)
+
+module _ (bands : List Found) (vars : List Float) (n : ℕ) (e : take n vars ≡ variances bands) (g : n ≤ 4) (h : length vars ≡ 4) where
+  length-is : length (variances bands) ≡ n
+  length-is = sym (ap length e) ∙ length-take-le n vars (omega (arith, h))
+
+  pub sigma-none : n ≡ 0 → Number 6 ≡ sigmaOf bands
+  unfolding sigmaOf
+  sigma-none z = chosen (eqb (length (variances bands)) 0) (Number 6) (decided (joined bands)) (eq-eqb (length (variances bands)) 0 (length-is ∙ z))
+
+  pub sigma-is : (n ≡ 0 → ⊥) → {m : Float} → m ≡ median (take n vars) → {most : Float} → most ≡ lid m → {k : Total} → k ≡ joinFrom most nothing bands
+      → {s : Sigma} → s ≡ decided k → s ≡ sigmaOf bands
+  unfolding sigmaOf joined
+  sigma-is z {m} p {most} q {k} r {s} t =
+      t ∙ ap decided (r ∙ ap (λ (x : Float). joinFrom x nothing bands) (q ∙ ap lid (p ∙ ap median e)))
+      ∙ passed (eqb (length (variances bands)) 0) (Number 6) (decided (joined bands)) (ne-eqb (length (variances bands)) 0 (λ y. z (sym length-is ∙ y)))

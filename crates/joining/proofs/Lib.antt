@@ -1,0 +1,3 @@
+-- What the loops keep, and what follows from the definitions.
+pub mod Joins
+pub mod Noises

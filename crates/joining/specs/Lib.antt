@@ -1,0 +1,3 @@
+-- The noise of a pass, from its bands.
+pub mod Numbers
+pub mod Joining

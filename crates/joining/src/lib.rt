@@ -1,0 +1,205 @@
+// The noise of a pass from its bands: noise.rs, `noise_sigma`.
+ghost use mathlib.Core.Path.{_≡_};
+ghost use mathlib.Core.List.{_++_};
+ghost use Prim.Native.Nat.{ℕ, _+_, _-_, _*_, _^_, _≤_, _<_};
+ghost use lib.ListN.{length, getD, take};
+ghost use Rattle.quantile.specs.Rising.{at, rising, inserted, Rises};
+ghost use Rattle.rounds.specs.Rounds.{part, bandVariance, Bands};
+ghost use Rattle.joining.specs.Joining as Joining;
+ghost use Rattle.joining.specs.Joining.{variances, varianceOf, withFound, joinFrom, deviation, decided, sigmaOf, noise, counts, countOf};
+
+use rounds::Found;
+use rounds::Total;
+
+// The standard deviation of the noise, or document 01's number of why there is none.
+pub enum Sigma {
+    Figure(f32),
+    Number(u32),
+}
+
+// With the rounds that were evaluated.
+pub struct Noise {
+    pub sigma: Sigma,
+    pub rounds: usize,
+}
+
+// The noise of a pass from the gates and the squared outputs of its windows. Band b is the windows from starts[b] to starts[b + 1].
+pub fn noise_sigma(gate: &[f32], op: &[f32], starts: &[usize; 5]) -> Noise
+    requires { ⌜ Bands (now gate) (now op) (now starts) ⌝ }
+    ensures { λ r. ⌜ r ≡ noise (now (gate .entry)) (now (op .entry)) (now (starts .entry)) ⌝ }
+{
+    if gate.len() < 512 {
+        return Noise { sigma: Sigma::Number(5), rounds: 0 };
+    }
+    let image = rounds::image_variance(gate, op, starts);
+    let image_var = image.var;
+    let mut bands = [Found::Missing; 4];
+    let mut rounds = image.rounds;
+    let mut b: usize = 0;
+    while b < 4 {
+        let a = starts[b];
+        let e = starts[b + 1];
+        let v = band_variance(gate, op, a, e, image_var);
+        let f = v.found;
+        bands[b] = f;
+        rounds = rounds + v.rounds;
+        b += 1;
+    }
+    Noise { sigma: join(bands), rounds: rounds }
+}
+
+// The variance of the band from a to e.
+fn band_variance(gate: &[f32], op: &[f32], a: usize, e: usize, image_var: f64) -> rounds::BandVariance
+    requires { ⌜ (a ≤ e) × (e ≤ length (now gate)) × (length (now gate) ≡ length (now op)) ⌝ }
+    ensures { λ r. ⌜ r ≡ bandVariance (part (now (gate .entry)) a e) (part (now (op .entry)) a e) «image_var» ⌝ }
+{
+    rounds::variance(&gate[a..e], &op[a..e], image_var)
+}
+
+// The answer from the bands.
+fn join(bands: [Found; 4]) -> Sigma
+    requires { ⌜ (length bands ≡ 4) × (counts bands < 2 ^ 64) ⌝ }
+    ensures { λ r. ⌜ r ≡ sigmaOf bands ⌝ }
+{
+    let mut vars = [0.0f64; 4];
+    let n = collect(bands, &mut vars);
+    if n == 0 {
+        return Sigma::Number(6);
+    }
+    let most = lid(median(&vars, n));
+    decide(joined(bands, most))
+}
+
+// The variances that there are go to the front of vars. The answer is how many there are.
+fn collect(bands: [Found; 4], vars: &mut [f64; 4]) -> usize
+    requires { ⌜ (length bands ≡ 4) × (length (now vars) ≡ 4) ⌝ }
+    ensures { λ r. ⌜ (take r (now (vars .exit)) ≡ variances bands) × (r ≤ 4) × (length (now (vars .exit)) ≡ 4) ⌝ }
+{
+    let mut n: usize = 0;
+    let mut b: usize = 0;
+    while b < 4 {
+        let f = bands[b];
+        n = push(vars, n, f);
+        b += 1;
+    }
+    n
+}
+
+// A band's variance, where it has one, goes to place n of vars. The answer is the next place.
+fn push(vars: &mut [f64; 4], n: usize, f: Found) -> usize
+    requires { ⌜ (n < 4) × (length (now vars) ≡ 4) ⌝ }
+    ensures { λ r. ⌜ (take r (now (vars .exit)) ≡ take n (now (vars .entry)) ++ varianceOf f) × (r ≤ n + 1) × (length (now (vars .exit)) ≡ 4) ⌝ }
+{
+    match f {
+        Found::Variance(_, v) => {
+            vars[n] = v;
+            n + 1
+        }
+        Found::Missing => n,
+    }
+}
+
+// The median of the first n.
+fn median(vars: &[f64; 4], n: usize) -> f64
+    requires { ⌜ (1 ≤ n) × (n ≤ 4) × (length (now vars) ≡ 4) ⌝ }
+    ensures { λ r. ⌜ r ≡ Joining.median (take n (now (vars .entry))) ⌝ }
+{
+    let l = sort(vars, n);
+    if n % 2 == 1 {
+        return l[n / 2];
+    }
+    0.5 * (l[n / 2 - 1] + l[n / 2])
+}
+
+// The first n in rising order, and then no numbers.
+fn sort(vars: &[f64; 4], n: usize) -> [f64; 4]
+    requires { ⌜ n ≤ 4 ⌝ }
+    ensures { λ r. ⌜ ((i : ℕ) → i < 4 → at r i ≡ at (rising (at (now (vars .entry))) n) i) ⌝ }
+{
+    let none = 0.0f64 / 0.0;
+    let mut least = [none; 4];
+    let mut k: usize = 0;
+    while k < n {
+        let v = vars[k];
+        insert(&mut least, v);
+        k += 1;
+    }
+    least
+}
+
+// v among the four least, which stand in rising order; the last one falls out.
+fn insert(least: &mut [f64; 4], v: f64)
+    requires { ⌜ Rises (now least) × (length (now least) ≡ 4) ⌝ }
+    ensures { λ r. ⌜ now (least .exit) ≡ take 4 (inserted v (now (least .entry))) ⌝ }
+{
+    let last = least[3];
+    if float::total_less64(v, last) {
+        let mut j: usize = 3;
+        while 0 < j {
+            let x = least[j - 1];
+            if float::total_less64(v, x) {
+                least[j] = x;
+                j -= 1;
+            } else {
+                least[j] = v;
+                return;
+            }
+        }
+        least[0] = v;
+    }
+}
+
+// A band that is joined has at most this variance.
+fn lid(median: f64) -> f64
+    ensures { λ r. ⌜ r ≡ Joining.lid median ⌝ }
+{
+    3.0 * float::max64(median, 33.333333333333336)
+}
+
+// The bands whose variance is at most most: how many windows they admit, and their variances' sum, each times its count.
+fn joined(bands: [Found; 4], most: f64) -> Total
+    requires { ⌜ (length bands ≡ 4) × (counts bands < 2 ^ 64) ⌝ }
+    ensures { λ r. ⌜ r ≡ joinFrom most (Joining.nothing) bands ⌝ }
+{
+    let mut k = Total { n: 0, sum: 0.0 };
+    let mut b: usize = 0;
+    while b < 4 {
+        let f = bands[b];
+        k = add_band(k, f, most);
+        b += 1;
+    }
+    k
+}
+
+// k and a band, where it joins.
+fn add_band(k: Total, f: Found, most: f64) -> Total
+    requires { ⌜ k .n + countOf f < 2 ^ 64 ⌝ }
+    ensures { λ r. ⌜ r ≡ withFound most k f ⌝ }
+{
+    match f {
+        Found::Variance(n, var) => {
+            if var <= most {
+                return Total { n: k.n + n, sum: k.sum + rounds::whole(n) * var };
+            }
+            k
+        }
+        Found::Missing => k,
+    }
+}
+
+// The answer where some band has a variance.
+fn decide(k: Total) -> Sigma
+    ensures { λ r. ⌜ r ≡ decided k ⌝ }
+{
+    if k.n < 512 {
+        return Sigma::Number(7);
+    }
+    Sigma::Figure(deviation(k))
+}
+
+// The root of the mean variance, in gray levels.
+fn deviation(k: Total) -> f32
+    ensures { λ r. ⌜ r ≡ Joining.deviation k ⌝ }
+{
+    float::to_f32(float::sqrt64(k.sum / rounds::whole(k.n)) / 20.0)
+}

@@ -1,0 +1,5 @@
+-- Laws of numbers and patterns that the proofs cite.
+pub mod Answers
+pub mod Counts
+pub mod Hex
+pub mod Patterns

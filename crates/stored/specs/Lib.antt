@@ -1,0 +1,3 @@
+-- What lists of stored answers say, and when one agrees.
+pub mod Floats
+pub mod Lines
