@@ -22,10 +22,6 @@ pub one-is : ofBits binary32 0x3f80_0000 ≡ whole 1
 unfolding ofBits ofInt
 one-is = refl
 
-pub infinity-is : div binary32 (ofBits binary32 0x3f80_0000) (ofBits binary32 0) ≡ inf false
-unfolding ofBits div
-infinity-is = refl
-
 pub minus-infinity-is : div binary32 (neg (ofBits binary32 0x3f80_0000)) (ofBits binary32 0) ≡ inf true
 unfolding ofBits neg div
 minus-infinity-is = refl

@@ -16,7 +16,8 @@ use Rattle.ieee.specs.Order.{totalLess, negative}
 use Rattle.quantile.specs.Rising.{at, inserted, rising, Rises}
 use Rattle.quantile.proofs.Orders.{upto, below-upto}
 use Rattle.laws.proofs.Choice.{chosen, passed}
-use Rattle.quantile.proofs.Rises.{irreflexive, rises-upto, rising-rises, length-inserted}
+use Rattle.ieee.proofs.TotalOrder.{irreflexive}
+use Rattle.quantile.proofs.Rises.{rises-upto, rising-rises, length-inserted}
 use Rattle.tile.specs.Clear.{clear, AllClear}
 use Rattle.tile.specs.Gradients.{largest}
 

@@ -14,7 +14,7 @@ use lib.Ieee.Exact.{HasValue}
 use lib.Ieee.Back.{round-whole}
 use lib.Ieee.Scale.{round-same}
 use Rattle.laws.proofs.Choice.{cond-both}
-use Rattle.ieee.proofs.Signs.{units-plain}
+use Rattle.ieee.proofs.Units.{round-plain}
 use Rattle.tile.specs.Whole.{whole, Upto}
 use Rattle.tile.specs.Clear.{clear, AllClear}
 use Rattle.tile.specs.Smoothing.{binomial, down as downward, smoothed}
@@ -101,9 +101,6 @@ smooth-upto t h y x a b =
     at c g = binomial-upto 255 (omega arith) (h y c (omega arith) g) (h (y + 1) c (omega arith) g) (h (y + 2) c (omega arith) g) (h (y + 3) c (omega arith) g) (h (y + 4) c (omega arith) g)
 
 -- ---- differences of whole numbers are numbers, and squares have the sign clear
-
-round-plain : (f : Format) (s : Bool) (a b : ℕ) → T (not (isNan (round f s a b)))
-round-plain f s a b = subst (λ (x : Float). T (not (isNan x))) (sym (round-is f s a b)) (units-plain f s _ _)
 
 units-clear : (f : Format) (q k : ℕ) → T (clear (units f false q k))
 unfolding units odd

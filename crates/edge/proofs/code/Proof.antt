@@ -5,8 +5,7 @@ use Prim.Native.Nat.{ℕ, _+_}
 use borrow.Author.Needs.{needs}
 use lib.Dec.{T}
 use lib.Ieee.{Float, nan, ne, isNan, binary32, toBits}
-use lib.Ieee.Compare.{differs-from-itself}
-use Rattle.ieee.proofs.Laws.{no-nan}
+use Rattle.ieee.proofs.Tests.{nan-is, no-nan}
 use Rattle.tile.specs.Width.{answer}
 use Rattle.edge.specs.Code as Code
 use Rattle.edge.proofs.code.Statement.{statement}
@@ -22,7 +21,7 @@ enum-known-e c = search needs
 returns : tie.Need-returns
 returns c =
     let x = c .before .before .e .given .0 .0 in
-    sym nan-bits ∙ ap (toBits binary32) (sym (differs-from-itself x (subst T (sym (c .if1 .taken)) tt))) ∙ ap (λ t. Code.code (answer t)) (sym (c .before .before .e .given .1))
+    sym nan-bits ∙ ap (toBits binary32) (sym (nan-is x (c .if1 .taken))) ∙ ap (λ t. Code.code (answer t)) (sym (c .before .before .e .given .1))
 
 float-to-bits-wide : tie.Need-float-to-bits-wide
 float-to-bits-wide c = no-nan (c .before .before .e .given .0 .0) (c .if1 .left)

@@ -7,7 +7,7 @@ use denote.Ref.{now}
 use lib.Ieee.{Float, nan, binary32}
 use mathlib.Core.List.{foldl}
 use Rattle.ieee.specs.Order.{smaller}
-use Rattle.tile.proofs.Constants.{infinity-is}
+use Rattle.ieee.proofs.Tests.{one-over-zero}
 use Rattle.tile.proofs.Folds.{Folding, fold-start, fold-put, fold-end}
 use Rattle.tile.proofs.lowest.Statement.{statement}
 use Rattle.tile.proofs.lowest.Tie as tie
@@ -40,7 +40,7 @@ loop-again : tie.Need-loop-again Inv-loop μ-loop
 loop-again c = fold-put nan (c .before .before .before .loop .inv) (omega arith) (c .min32 .ensures)
 
 returns : tie.Need-returns Inv-loop μ-loop
-returns c = fold-end (c .before .loop .inv) (omega arith) ∙ ap (λ (z : Float). foldl smaller z (now (c .before .before .args .values))) infinity-is
+returns c = fold-end (c .before .loop .inv) (omega arith) ∙ ap (λ (z : Float). foldl smaller z (now (c .before .before .args .values))) one-over-zero
 
 pub lowest-spec : {M : Type 1} → statement M
 lowest-spec =
