@@ -156,12 +156,12 @@ fn sides(random: &mut Random, least: u64) -> [usize; 2] {
 /// A part at, next to or past ±1,000,000, or small, or anything.
 fn place(random: &mut Random) -> [i32; 2] {
     [0, 0].map(|_| {
-        let size = 999_999 + random.below(3) as i32;
+        let (size, any) = (999_999 + random.below(3) as i32, random.bits() as i32);
         match random.below(8) {
             0..4 => random.below(100) as i32 - 50,
             4 | 5 => size,
             6 => -size,
-            _ => random.pick(&[i32::MIN, i32::MAX, random.bits() as i32]),
+            _ => random.pick(&[i32::MIN, i32::MAX, any]),
         }
     })
 }
@@ -197,20 +197,15 @@ fn speed() {
     let inside = spread(call.clone(), &mut random, |random| [8 + random.below(48) as i32, 8 + random.below(48) as i32]);
     let border = spread(call, &mut random, |random| [random.pick(&[-3, 2, 61, 66]), random.below(64) as i32]);
     for (what, calls) in [("inside", inside), ("border", border)] {
-        let view = |call: &Call| {
-            let view = ImageView::with_origin(64, 64, &call.pixels, call.origin).expect("the pixels fit the sides");
-            let mut tile = uncertainty::PixelTile::default();
-            move |call: &Call| uncertainty::edge_width(&view, call.centre, &mut tile)
-        };
-        let shared = calls[0].clone();
-        let mut theirs = view(&shared);
+        let view = ImageView::with_origin(64, 64, &calls[0].pixels, [0, 0]).expect("the pixels fit the sides");
+        let mut tile = uncertainty::PixelTile::default();
         let mut times = [vec![], vec![]];
         for _ in 0..401 {
             let began = Instant::now();
             calls.iter().for_each(|call| _ = black_box(call.ours()));
             times[0].push(began.elapsed().as_secs_f64() * 1e9 / calls.len() as f64);
             let began = Instant::now();
-            calls.iter().for_each(|call| _ = black_box(theirs(call)));
+            calls.iter().for_each(|call| _ = black_box(uncertainty::edge_width(&view, call.centre, &mut tile)));
             times[1].push(began.elapsed().as_secs_f64() * 1e9 / calls.len() as f64);
         }
         let [ours, theirs] = times.map(|mut list| {
