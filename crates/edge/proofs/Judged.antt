@@ -12,11 +12,11 @@ use lib.Ieee.{Float, nan}
 use Rattle.laws.proofs.Choice.{cond-both}
 use Rattle.imageview.specs.Sample.{pixel}
 use Rattle.imageview.specs.Limits.{tooLarge, misfit, imageNumber, far, farPlace}
-use Rattle.tile.specs.Whole.{Upto}
+use Rattle.levels.specs.Whole.{Upto}
 use Rattle.tile.specs.Tile.{tile, inRows, read}
 use Rattle.tile.specs.Smoothing.{smoothed}
 use Rattle.tile.specs.Width.{Answer, number, edgeOf}
-use Rattle.tile.proofs.Folds.{getD-from}
+use Rattle.levels.proofs.Folds.{getD-from}
 use Rattle.tile.proofs.Places.{read-rows, smooth-same}
 use Rattle.tile.proofs.Edges.{edge-same}
 use Rattle.edge.specs.Edge.{edge}

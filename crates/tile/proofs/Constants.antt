@@ -1,14 +1,9 @@
 -- The code's float constants are the numbers that the definitions name, rounded once.
 use mathlib.Core.Path.{_≡_, refl}
-use mathlib.Core.Bool.{true, false}
-use lib.Ieee.{Float, inf, binary32, ofBits, ofInt, round, neg, mul, div}
+use lib.Ieee.{Float, binary32, ofBits, ofInt, round, mul}
 use Rattle.ieee.specs.Sqrt.{sqrt}
-use Rattle.tile.specs.Whole.{whole}
+use Rattle.levels.specs.Whole.{whole}
 use Rattle.tile.specs.Width.{rootTwoPi}
-
-pub zero-is : ofBits binary32 0 ≡ whole 0
-unfolding ofBits ofInt
-zero-is = refl
 
 pub four-is : ofBits binary32 0x4080_0000 ≡ whole 4
 unfolding ofBits ofInt
@@ -18,27 +13,6 @@ pub six-is : ofBits binary32 0x40c0_0000 ≡ whole 6
 unfolding ofBits ofInt
 six-is = refl
 
-pub one-is : ofBits binary32 0x3f80_0000 ≡ whole 1
-unfolding ofBits ofInt
-one-is = refl
-
-pub minus-infinity-is : div binary32 (neg (ofBits binary32 0x3f80_0000)) (ofBits binary32 0) ≡ inf true
-unfolding ofBits neg div
-minus-infinity-is = refl
-
-pub fifth-is : ofBits binary32 0x3e4c_cccd ≡ round binary32 false 1 5
-unfolding ofBits round
-fifth-is = refl
-
-pub half-is : ofBits binary32 0x3f00_0000 ≡ round binary32 false 1 2
-unfolding ofBits round
-half-is = refl
-
-pub eight-is : ofBits binary32 0x4100_0000 ≡ whole 8
-unfolding ofBits ofInt
-eight-is = refl
-
--- the code writes the root out, and takes no root for it
 pub root-is : ofBits binary32 0x4020_6c99 ≡ rootTwoPi
 unfolding ofBits ofInt round mul sqrt
 root-is = refl

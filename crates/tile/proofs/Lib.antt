@@ -1,9 +1,6 @@
 pub mod Constants
 pub mod Rows
 pub mod Table
-pub mod Folds
 pub mod Places
-pub mod Largests
-pub mod Wholes
-pub mod Contrasts
+pub mod Smoothed
 pub mod Edges

@@ -13,7 +13,7 @@ use Rattle.tile.specs.Smoothing.{down, across, smoothed}
 use Rattle.tile.specs.Disk.{disk}
 use Rattle.tile.specs.Gradients.{values, squares, squaredAt, gradients}
 use Rattle.tile.proofs.Table.{every, each}
-use Rattle.tile.proofs.Folds.{map-same, getD-from}
+use Rattle.levels.proofs.Folds.{map-same, getD-from}
 use Rattle.tile.proofs.Rows.{right, left, below, above, five}
 
 pub disk-long : length disk ≡ 81

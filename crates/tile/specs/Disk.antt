@@ -4,7 +4,7 @@ use mathlib.Core.Bool.{Bool}
 use mathlib.Core.List.{List}
 use lib.Dec.{leb}
 use Rattle.laws.specs.Lists.{from}
-use Rattle.tile.specs.Kept.{kept}
+use Rattle.levels.specs.Kept.{kept}
 
 -- how far a row or a column is from the centre's
 abbrev pub away : ℕ → ℕ

@@ -1,9 +1,7 @@
--- The disk's values and squared gradients, and the eight largest of these.
+-- The disk's values and squared gradients, place by place.
 use Prim.Native.Nat.{ℕ, _+_, _-_, _/_, _%_}
 use mathlib.Core.List.{List, map}
-use lib.ListN.{drop}
 use lib.Ieee.{Float, binary32, add, sub, mul}
-use Rattle.quantile.specs.Rising.{at, rising}
 use Rattle.tile.specs.Disk.{disk}
 
 abbrev pub values : (ℕ → ℕ → Float) → List Float
@@ -19,7 +17,3 @@ squaredAt s y x = squares (sub binary32 (s y (x + 1)) (s y (x - 1))) (sub binary
 
 abbrev pub gradients : (ℕ → ℕ → Float) → List Float
 gradients s = map (λ k. squaredAt s (k / 17) (k % 17)) disk
-
--- the eight largest of 81, the smallest of them first
-unfoldable pub largest : List Float → List Float
-largest g = drop 73 (rising (at g) 81)

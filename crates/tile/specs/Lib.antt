@@ -1,9 +1,5 @@
-pub mod Whole
-pub mod Kept
-pub mod Clear
 pub mod Tile
 pub mod Smoothing
 pub mod Disk
 pub mod Gradients
-pub mod Levels
 pub mod Width

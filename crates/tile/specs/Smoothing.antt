@@ -1,7 +1,7 @@
 -- Smoothing 1, 4, 6, 4, 1 down, then across.
 use Prim.Native.Nat.{ℕ, _+_}
 use lib.Ieee.{Float, binary32, add, mul}
-use Rattle.tile.specs.Whole.{whole}
+use Rattle.levels.specs.Whole.{whole}
 
 -- by the source's operations: (a + e) + 4 (b + d) + 6 c
 abbrev pub binomial : Float → Float → Float → Float → Float → Float

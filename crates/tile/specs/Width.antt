@@ -1,12 +1,12 @@
 -- The width of the edges on a smoothed square, and what document 01 answers for it.
 use Prim.Native.Nat.{ℕ, _^_}
 use mathlib.Core.Bool.{false, cond}
-use mathlib.Core.List.{List, map}
 use lib.Ieee.{Float, binary32, sub, mul, div, lt, round}
 use Rattle.ieee.specs.Sqrt.{sqrt}
-use Rattle.tile.specs.Gradients.{values, gradients, largest}
-use Rattle.tile.specs.Whole.{whole}
-use Rattle.tile.specs.Levels.{total, highLevel, lowLevel}
+use Rattle.tile.specs.Gradients.{values, gradients}
+use Rattle.levels.specs.Whole.{whole}
+use Rattle.levels.specs.Levels.{highLevel, lowLevel}
+use Rattle.levels.specs.Steepness.{steepness}
 use Rattle.tile.specs.declared.EdgeWidth.{EdgeWidth}
 use Rattle.tile.specs.declared.EdgeWidth.the-variants.{Width, Refused}
 
@@ -25,10 +25,6 @@ pi = round binary32 false 314159265358979323846264338327950288 (10 ^ 35)
 
 abbrev pub rootTwoPi : Float
 rootTwoPi = sqrt binary32 (mul binary32 (whole 2) pi)
-
--- the gradient mean: of the eight largest magnitudes, added from the smallest up, halved
-unfoldable pub steepness : List Float → Float
-steepness g = div binary32 (mul binary32 (round binary32 false 1 2) (total (map (sqrt binary32) (largest g)))) (whole 8)
 
 -- 9 where the gradient mean is zero
 abbrev pub edgeOf : (ℕ → ℕ → Float) → Answer

@@ -10,7 +10,7 @@ use Rattle.tile.specs.Tile.{read}
 use Rattle.tile.specs.Disk.{disk}
 use Rattle.tile.specs.Gradients.{squaredAt}
 use Rattle.tile.proofs.Places.{disk-long, squared-at}
-use Rattle.tile.proofs.Folds.{from-map}
+use Rattle.levels.proofs.Folds.{from-map}
 use Rattle.tile.proofs.gradients.Statement.{statement}
 use Rattle.tile.proofs.gradients.Tie as tie
 

@@ -10,7 +10,7 @@ use Rattle.tile.specs.Tile.{read}
 use Rattle.tile.specs.Disk.{disk}
 use Rattle.tile.proofs.Rows.{here}
 use Rattle.tile.proofs.Places.{disk-long}
-use Rattle.tile.proofs.Folds.{from-map}
+use Rattle.levels.proofs.Folds.{from-map}
 use Rattle.tile.proofs.values.Statement.{statement}
 use Rattle.tile.proofs.values.Tie as tie
 

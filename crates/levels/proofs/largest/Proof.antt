@@ -5,9 +5,9 @@ use native.Mathlib.Omega.{arith}
 use lib.ListN.{length, getD}
 use denote.Ref.{now}
 use lib.Ieee.{Float, nan}
-use Rattle.tile.proofs.Largests.{Kept, clear-at, keep-start, keep-put, keep-end}
-use Rattle.tile.proofs.largest.Statement.{statement}
-use Rattle.tile.proofs.largest.Tie as tie
+use Rattle.levels.proofs.Largests.{Kept, clear-at, keep-start, keep-put, keep-end}
+use Rattle.levels.proofs.largest.Statement.{statement}
+use Rattle.levels.proofs.largest.Tie as tie
 
 abbrev Inv-loop : tie.InvT-loop
 Inv-loop gradients top₀ m₀ top m = Kept gradients m top

@@ -5,8 +5,8 @@ use mathlib.Core.List.{List, foldl}
 use lib.ListN.{length}
 use lib.Ieee.{Float, inf, binary32, add, sub, mul, div, le, round}
 use Rattle.ieee.specs.Order.{larger, smaller}
-use Rattle.tile.specs.Kept.{kept}
-use Rattle.tile.specs.Whole.{whole}
+use Rattle.levels.specs.Kept.{kept}
+use Rattle.levels.specs.Whole.{whole}
 
 -- from the first to the last
 abbrev pub total : List Float → Float

@@ -6,10 +6,10 @@ use lib.ListN.{length, getD}
 use denote.Ref.{now}
 use lib.Ieee.{Float, nan, lt}
 use Rattle.ieee.specs.Order.{totalLess}
-use Rattle.tile.specs.Clear.{clear, AllClear}
-use Rattle.tile.proofs.Largests.{Climbing, less-is, clear-at, stay, climb-start, climb-next, climb-more, climb-stop, climb-end}
-use Rattle.tile.proofs.insert.Statement.{statement}
-use Rattle.tile.proofs.insert.Tie as tie
+use Rattle.levels.specs.Clear.{clear, AllClear}
+use Rattle.levels.proofs.Largests.{Climbing, less-is, clear-at, stay, climb-start, climb-next, climb-more, climb-stop, climb-end}
+use Rattle.levels.proofs.insert.Statement.{statement}
+use Rattle.levels.proofs.insert.Tie as tie
 
 abbrev Inv-loop : tie.InvT-loop
 Inv-loop top₀ v least j₀ top j = Climbing top₀ v j top

@@ -8,9 +8,9 @@ use lib.Ieee.{Float, nan, binary32}
 use mathlib.Core.List.{foldl}
 use Rattle.ieee.specs.Order.{smaller}
 use Rattle.ieee.proofs.Tests.{one-over-zero}
-use Rattle.tile.proofs.Folds.{Folding, fold-start, fold-put, fold-end}
-use Rattle.tile.proofs.lowest.Statement.{statement}
-use Rattle.tile.proofs.lowest.Tie as tie
+use Rattle.levels.proofs.Folds.{Folding, fold-start, fold-put, fold-end}
+use Rattle.levels.proofs.lowest.Statement.{statement}
+use Rattle.levels.proofs.lowest.Tie as tie
 
 abbrev Inv-loop : tie.InvT-loop
 Inv-loop values least₀ m₀ least m = Folding smaller values least₀ least m

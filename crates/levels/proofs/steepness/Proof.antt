@@ -5,12 +5,12 @@ use denote.Ref.{now}
 use lib.Ieee.{Float, binary32, mul, div, round}
 use Rattle.ieee.specs.Sqrt.{sqrt}
 use borrow.Author.Needs.{needs}
-use Rattle.tile.specs.Levels.{total}
-use Rattle.tile.specs.Gradients.{largest}
-use Rattle.tile.specs.Width.{steepness}
-use Rattle.tile.proofs.Constants.{half-is, eight-is}
-use Rattle.tile.proofs.steepness.Statement.{statement}
-use Rattle.tile.proofs.steepness.Tie as tie
+use Rattle.levels.specs.Levels.{total}
+use Rattle.levels.specs.Steepness.{largest}
+use Rattle.levels.specs.Steepness.{steepness}
+use Rattle.levels.proofs.Constants.{half-is, eight-is}
+use Rattle.levels.proofs.steepness.Statement.{statement}
+use Rattle.levels.proofs.steepness.Tie as tie
 
 largest-requires : tie.Need-largest-requires
 largest-requires c κs = search needs

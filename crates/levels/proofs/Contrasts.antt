@@ -3,9 +3,9 @@ use mathlib.Core.Path.{_≡_, refl, sym, ap, _∙_}
 use mathlib.Core.List.{List}
 use mathlib.Core.Bool.{false}
 use lib.Ieee.{Float, binary32, add, sub, mul, le, ofBits, round}
-use Rattle.tile.specs.Kept.{kept}
-use Rattle.tile.specs.Levels.{mean, highest, lowest, band, highLevel, lowLevel}
-use Rattle.tile.proofs.Constants.{fifth-is}
+use Rattle.levels.specs.Kept.{kept}
+use Rattle.levels.specs.Levels.{mean, highest, lowest, band, highLevel, lowLevel}
+use Rattle.levels.proofs.Constants.{fifth-is}
 
 module _ (l : List Float) (most least : Float) (p : most ≡ highest l) (q : least ≡ lowest l) where
   abbrev here : Float

@@ -7,10 +7,10 @@ use denote.Ref.{now}
 use lib.Ieee.{Float, nan, binary32}
 use mathlib.Core.List.{foldl}
 use Rattle.ieee.specs.Order.{larger}
-use Rattle.tile.proofs.Constants.{minus-infinity-is}
-use Rattle.tile.proofs.Folds.{Folding, fold-start, fold-put, fold-end}
-use Rattle.tile.proofs.highest.Statement.{statement}
-use Rattle.tile.proofs.highest.Tie as tie
+use Rattle.levels.proofs.Constants.{minus-infinity-is}
+use Rattle.levels.proofs.Folds.{Folding, fold-start, fold-put, fold-end}
+use Rattle.levels.proofs.highest.Statement.{statement}
+use Rattle.levels.proofs.highest.Tie as tie
 
 abbrev Inv-loop : tie.InvT-loop
 Inv-loop values most₀ m₀ most m = Folding larger values most₀ most m

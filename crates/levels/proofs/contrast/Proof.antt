@@ -3,10 +3,10 @@ use mathlib.Core.Path.{_≡_, refl, sym, ap, _∙_}
 use denote.Ref.{now}
 use lib.Ieee.{Float, binary32, sub}
 use borrow.Author.Needs.{needs}
-use Rattle.tile.specs.Levels.{highLevel, lowLevel}
-use Rattle.tile.proofs.Contrasts.{high-is, low-is}
-use Rattle.tile.proofs.contrast.Statement.{statement}
-use Rattle.tile.proofs.contrast.Tie as tie
+use Rattle.levels.specs.Levels.{highLevel, lowLevel}
+use Rattle.levels.proofs.Contrasts.{high-is, low-is}
+use Rattle.levels.proofs.contrast.Statement.{statement}
+use Rattle.levels.proofs.contrast.Tie as tie
 
 highest-requires : tie.Need-highest-requires
 highest-requires c κs = search needs

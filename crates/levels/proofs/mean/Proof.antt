@@ -5,10 +5,10 @@ use native.Mathlib.Omega.{arith}
 use lib.Dec.{T, leb, le→leb}
 use lib.IntN.{pos}
 use lib.Ieee.{Float, binary32, div, inFloat, ofInt}
-use Rattle.tile.specs.Whole.{whole}
-use Rattle.tile.proofs.Constants.{one-is}
-use Rattle.tile.proofs.mean.Statement.{statement}
-use Rattle.tile.proofs.mean.Tie as tie
+use Rattle.levels.specs.Whole.{whole}
+use Rattle.levels.proofs.Constants.{one-is}
+use Rattle.levels.proofs.mean.Statement.{statement}
+use Rattle.levels.proofs.mean.Tie as tie
 
 none : (n : ℕ) → n ≡ 0 → 1 ≡ max n 1
 none n e = omega arith

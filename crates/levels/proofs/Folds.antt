@@ -9,7 +9,7 @@ use lib.ListN.{length, getD, drop, drop-of-length-le}
 use lib.Seq.{drop-cons}
 use Rattle.laws.specs.Lists.{from}
 use Rattle.laws.proofs.Fill.{from-get}
-use Rattle.tile.specs.Kept.{kept}
+use Rattle.levels.specs.Kept.{kept}
 
 pub record Folding {A B : Type 0} (step : B → A → B) (l : List A) (start now : B) (k : ℕ) : Type 0 where
   pub low : k ≤ length l

@@ -18,8 +18,8 @@ use Rattle.quantile.proofs.Orders.{upto, below-upto}
 use Rattle.laws.proofs.Choice.{chosen, passed}
 use Rattle.ieee.proofs.TotalOrder.{irreflexive}
 use Rattle.quantile.proofs.Rises.{rises-upto, rising-rises, length-inserted}
-use Rattle.tile.specs.Clear.{clear, AllClear}
-use Rattle.tile.specs.Gradients.{largest}
+use Rattle.levels.specs.Clear.{clear, AllClear}
+use Rattle.levels.specs.Steepness.{largest}
 
 -- ---- on clear numbers `<` is the order
 

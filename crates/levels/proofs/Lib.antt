@@ -1,0 +1,5 @@
+pub mod Constants
+pub mod Folds
+pub mod Contrasts
+pub mod Largests
+pub mod Wholes

@@ -1,0 +1,5 @@
+pub mod Whole
+pub mod Kept
+pub mod Clear
+pub mod Levels
+pub mod Steepness
