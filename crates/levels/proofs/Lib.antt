@@ -3,3 +3,4 @@ pub mod Folds
 pub mod Contrasts
 pub mod Largests
 pub mod Wholes
+pub mod Sums

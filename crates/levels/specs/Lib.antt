@@ -3,3 +3,4 @@ pub mod Kept
 pub mod Clear
 pub mod Levels
 pub mod Steepness
+pub mod Adding
