@@ -37,8 +37,25 @@ in-turn : (a : Adding) (l : List ℕ) → foldl (add binary32) (inFloats a) (map
 in-turn a [] = refl
 in-turn a (n ∷ l) = in-turn (both a (one n)) l
 
-pub total-any-order : (l : List ℕ) (a : Adding) → exactly a ≡ exactly (inTurn (one 0) l) → exactly a ≤ 2 ^ 24 → total (map whole l) ≡ inFloats a
-total-any-order l a e h = in-turn (one 0) l ∙ sym (any-order a (inTurn (one 0) l) e h)
+abbrev pub addUp : List ℕ → ℕ
+addUp [] = 0
+addUp (n ∷ l) = n + addUp l
+
+exactly-turn : (a : Adding) (l : List ℕ) → exactly (inTurn a l) ≡ exactly a + addUp l
+exactly-turn a [] = omega arith
+exactly-turn a (n ∷ l) = exactly-turn (both a (one n)) l ∙ go (exactly a) n (addUp l)
+  where
+    go : (a n k : ℕ) → a + n + k ≡ a + (n + k)
+    go a n k = omega arith
+
+pub total-exact : (l : List ℕ) → addUp l ≤ 2 ^ 24 → total (map whole l) ≡ whole (addUp l)
+total-exact l h = in-turn (one 0) l ∙ sum-exact (inTurn (one 0) l) (omega (arith, exactly-turn (one 0) l)) ∙ ap whole (exactly-turn (one 0) l ∙ go (addUp l))
+  where
+    go : (n : ℕ) → 0 + n ≡ n
+    go n = omega arith
+
+pub total-any-order : (l : List ℕ) (a : Adding) → exactly a ≡ addUp l → addUp l ≤ 2 ^ 24 → inFloats a ≡ total (map whole l)
+total-any-order l a e h = sum-exact a (omega arith) ∙ ap whole e ∙ sym (total-exact l h)
 
 -- ---- the order of whole numbers is that of their floats
 

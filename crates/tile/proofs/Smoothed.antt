@@ -1,7 +1,9 @@
 -- A smoothed tile of bytes: whole numbers below 2 ^ 16, exact, and squared gradients that are numbers with the sign clear.
 use mathlib.Core.Path.{_≡_, refl, sym, ap, _∙_, subst}
-use mathlib.Core.Bool.{false, not}
-use Prim.Native.Nat.{ℕ, _+_, _-_, _*_, _/_, _%_, _^_, _≤_, _<_}
+use mathlib.Core.Bool.{Bool, true, false, not, cond}
+use mathlib.Core.List.{List, [], _∷_, map}
+use Prim.Native.Nat.{ℕ, suc, _+_, _-_, _*_, _/_, _%_, _^_, _≤_, _<_}
+use native.Mathlib.Nat.{mul-le-mul-right}
 use native.Mathlib.Omega.{arith}
 use lib.Dec.{T}
 use lib.ListN.{length, getD, length-map}
@@ -9,12 +11,15 @@ use lib.Ieee.{Float, nan, binary32, add, sub, mul, isNan}
 use lib.Ieee.Exact.{HasValue}
 use Rattle.levels.specs.Whole.{whole, Upto}
 use Rattle.levels.specs.Clear.{clear, AllClear}
+use Rattle.levels.specs.Kept.{kept}
+use Rattle.levels.specs.Levels.{total}
 use Rattle.levels.proofs.Folds.{getD-map}
+use Rattle.levels.proofs.Sums.{addUp, total-exact}
 use Rattle.levels.proofs.Largests.{all-clear}
 use Rattle.levels.proofs.Wholes.{whole-value, add-whole, mul-whole, sub-plain, square-clear, add-clear}
 use Rattle.tile.specs.Smoothing.{binomial, down, smoothed}
 use Rattle.tile.specs.Disk.{disk}
-use Rattle.tile.specs.Gradients.{squaredAt, gradients}
+use Rattle.tile.specs.Gradients.{values, squaredAt, gradients}
 use Rattle.tile.proofs.Rows.{five}
 use Rattle.tile.proofs.Places.{disk-long, place-inner}
 
@@ -61,3 +66,40 @@ gradients-clear s h = all-clear (gradients s) (λ m l. at m (omega (arith, l, le
         subst (λ (z : Float). T (clear z)) (sym (getD-map (λ i. squaredAt s (i / 17) (i % 17)) 0 nan disk m (omega (arith, disk-long))))
         (add-clear binary32 _ _ (square-clear binary32 _ (difference (h y (x + 1) (omega arith) (omega arith)) (h y (x - 1) (omega arith) (omega arith))))
         (square-clear binary32 _ (difference (h (y + 1) x (omega arith) (omega arith)) (h (y - 1) x (omega arith) (omega arith)))))
+
+-- ---- the values that a level is the mean of add up to less than 2 ^ 24, so their f32 sum is exact in any order
+
+pub record Summed (l : List Float) : Type 0 where
+  pub numbers : List ℕ
+  pub are : l ≡ map whole numbers
+  pub few : addUp numbers ≤ length l * 65280
+
+summed : (p : Float → Bool) (l : List Float) → ((k : ℕ) → k < length l → Upto 65280 (getD l k nan)) → Summed (kept p l)
+summed p [] h = record { numbers = []; are = refl; few = omega arith }
+summed p (x ∷ l) h = go (p x) (summed p l (λ k g. h (suc k) (omega arith))) (h 0 (omega arith))
+  where
+    go : (t : Bool) → Summed (kept p l) → Upto 65280 x → Summed (cond t (x ∷ kept p l) (kept p l))
+    go true s u = record { numbers = u .number ∷ s .numbers; are = λ i. u .is i ∷ s .are i; few = omega (arith, u .small, s .few) }
+    go false s u = s
+
+kept-few : (p : Float → Bool) (l : List Float) → length (kept p l) ≤ length l
+kept-few p [] = omega arith
+kept-few p (x ∷ l) = go (p x) (kept-few p l)
+  where
+    go : (t : Bool) → length (kept p l) ≤ length l → length (cond t (x ∷ kept p l) (kept p l)) ≤ suc (length l)
+    go true h = omega arith
+    go false h = omega arith
+
+pub sums-exact : (s : ℕ → ℕ → Float) → ((y x : ℕ) → y ≤ 12 → x ≤ 12 → Upto 65280 (s y x)) → (p : Float → Bool)
+    → (numbers : List ℕ) × (kept p (values s) ≡ map whole numbers) × (addUp numbers ≤ 2 ^ 24) × (total (kept p (values s)) ≡ whole (addUp numbers))
+sums-exact s h p =
+    let r = summed p (values s) (λ k g. at k (omega (arith, g, values-long))) in
+    let few : addUp (r .numbers) ≤ 2 ^ 24 = omega (arith, r .few, mul-le-mul-right 65280 (kept-few p (values s)), values-long) in
+    (r .numbers, r .are, few, ap total (r .are) ∙ total-exact (r .numbers) few)
+  where
+    values-long : length (values s) ≡ 81
+    values-long = length-map disk (λ k. s (k / 17) (k % 17)) ∙ disk-long
+    at : (m : ℕ) → m < 81 → Upto 65280 (getD (values s) m nan)
+    at m l =
+        let q = place-inner m l in
+        subst (λ (z : Float). Upto 65280 z) (sym (getD-map (λ k. s (k / 17) (k % 17)) 0 nan disk m (omega (arith, disk-long)))) (h (getD disk m 0 / 17) (getD disk m 0 % 17) (omega arith) (omega arith))
