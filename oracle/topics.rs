@@ -3,6 +3,7 @@
 
 use crate::{images::Image, random, speed::beside, value::Value, Run, Stored, Topic};
 
+mod edge;
 mod floats;
 mod grid;
 mod gradients;
@@ -20,5 +21,6 @@ pub const ALL: &[Topic] = &[
     sample::TOPIC,
     gradients::TOPIC,
     model::TOPIC,
+    edge::TOPIC,
     patterns::TOPIC,
 ];

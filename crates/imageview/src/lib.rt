@@ -2,9 +2,10 @@
 ghost use mathlib.Core.Path.{_≡_};
 ghost use Prim.Native.Nat.{_*_};
 ghost use lib.ListN.{length};
-ghost use lib.IntN.{_+ℤ_};
+ghost use lib.IntN.{pos, _+ℤ_};
+ghost use mathlib.Core.List.{[], _∷_};
 ghost use Rattle.imageview.specs.Sample.{clamped, sample};
-ghost use Rattle.imageview.specs.Limits.{imageNumber, far as isFar};
+ghost use Rattle.imageview.specs.Limits.{imageNumber, farPlace, far as isFar};
 
 // 1 or 2 where document 01 refuses an image of these sides and pixels, else 0.
 pub fn judge(pixels: &[u8], width: usize, height: usize) -> u32
@@ -30,6 +31,16 @@ pub fn far(v: i32) -> bool
         return true;
     }
     v > 1_000_000
+}
+
+// Whether a part of a place is beyond ±1,000,000.
+pub fn far_place(place: [i32; 2]) -> bool
+    ensures { λ r. ⌜ r ≡ farPlace place ⌝ }
+{
+    if far(place[0]) {
+        return true;
+    }
+    far(place[1])
 }
 
 // The whole number of 0 to most that is nearest to v + o.
@@ -65,4 +76,54 @@ pub fn sample_at(
     let lx = place(x, origin[0], width - 1);
     let ly = place(y, origin[1], height - 1);
     pixels[ly * width + lx] as f32
+}
+
+// Lent pixels, row by row, with the sides and the origin that a place is moved by.
+pub struct ImageView<'a> {
+    pub pixels: &'a [u8],
+    pub width: usize,
+    pub height: usize,
+    pub origin: [i32; 2],
+}
+
+impl<'a> ImageView<'a> {
+    // A view with the origin at (0, 0).
+    pub fn from_u8_slice(width: usize, height: usize, pixels: &'a [u8]) -> Self
+        ensures { λ r. ⌜ (r .pixels ≡ pixels .entry) × (r .width ≡ width) × (r .height ≡ height) × (r .origin ≡ pos 0 ∷ pos 0 ∷ []) ⌝ }
+    {
+        Self {
+            pixels,
+            width,
+            height,
+            origin: [0, 0],
+        }
+    }
+
+    // The same with an origin.
+    pub fn with_origin(width: usize, height: usize, pixels: &'a [u8], origin: [i32; 2]) -> Self
+        ensures { λ r. ⌜ (r .pixels ≡ pixels .entry) × (r .width ≡ width) × (r .height ≡ height) × (r .origin ≡ origin) ⌝ }
+    {
+        Self {
+            pixels,
+            width,
+            height,
+            origin,
+        }
+    }
+
+    // The sample at (x, y).
+    pub fn sample(self, x: i32, y: i32) -> f32
+        requires { ⌜ length (now (self .pixels)) ≡ self .width * self .height ⌝ }
+        ensures { λ r. ⌜ r ≡ sample (now (self .entry .pixels)) (self .entry .width) (self .entry .height) (self .entry .origin) x y ⌝ }
+    {
+        sample_at(self.pixels, self.width, self.height, self.origin, x, y)
+    }
+}
+
+// The sample at (x, y) of the view of a slice, for a caller that has no view.
+pub fn view_sample(pixels: &[u8], width: usize, height: usize, origin: [i32; 2], x: i32, y: i32) -> f32
+    requires { ⌜ length (now pixels) ≡ width * height ⌝ }
+    ensures { λ r. ⌜ r ≡ sample (now (pixels .entry)) width height origin x y ⌝ }
+{
+    ImageView::with_origin(width, height, pixels, origin).sample(x, y)
 }

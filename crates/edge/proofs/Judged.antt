@@ -1,0 +1,82 @@
+-- The refusals in their order, and the answer of a tile that holds the samples about the centre.
+use mathlib.Core.Path.{_≡_, refl, sym, ap, _∙_, subst}
+use mathlib.Core.Bool.{Bool, true, false, cond, _||_}
+use mathlib.Core.List.{List}
+use Prim.Native.Nat.{ℕ, _+_, _*_, _/_, _%_, _≤_, _<_}
+use native.Mathlib.Omega.{arith}
+use borrow.Author.Tests.{not-false, eqb-true, ltb-false}
+use lib.Dec.{eqb}
+use lib.ListN.{length, getD}
+use lib.IntN.{ℤ, pos, natAbs}
+use lib.Ieee.{Float, nan}
+use Rattle.laws.proofs.Choice.{cond-both}
+use Rattle.imageview.specs.Sample.{pixel}
+use Rattle.imageview.specs.Limits.{tooLarge, misfit, imageNumber, far, farPlace}
+use Rattle.levels.specs.Whole.{Upto}
+use Rattle.tile.specs.Tile.{tile, inRows, read}
+use Rattle.tile.specs.Smoothing.{smoothed}
+use Rattle.tile.specs.Width.{Answer, number, edgeOf}
+use Rattle.levels.proofs.Folds.{getD-from}
+use Rattle.tile.proofs.Places.{read-rows, smooth-same}
+use Rattle.tile.proofs.Edges.{edge-same}
+use Rattle.edge.specs.Edge.{edge}
+
+-- a place that is not far off
+pub near : (p : List ℤ) → farPlace p ≡ false → (natAbs (getD p 0 (pos 0)) ≤ 1000000) × (natAbs (getD p 1 (pos 0)) ≤ 1000000)
+near p h = go (far (getD p 0 (pos 0))) refl h
+  where
+    go : (b : Bool) → far (getD p 0 (pos 0)) ≡ b → (b || far (getD p 1 (pos 0))) ≡ false → (natAbs (getD p 0 (pos 0)) ≤ 1000000) × (natAbs (getD p 1 (pos 0)) ≤ 1000000)
+    go true e h = absurd (let q : _≡_ {A = ℕ} 0 1 = cc in omega arith)
+    go false e h = (ltb-false 1000000 (natAbs (getD p 0 (pos 0))) e, ltb-false 1000000 (natAbs (getD p 1 (pos 0))) h)
+
+module _ (l : List ℕ) (w h : ℕ) (origin centre : List ℤ) {r : ℕ} (e : r ≡ imageNumber (length l) w h) where
+  pub refused-is : (r ≡ 0 → ⊥) → number r ≡ edge l w h origin centre
+  unfolding edge
+  refused-is n = go (tooLarge w h) (misfit (length l) w h) e
+    where
+      go : (t m : Bool) → r ≡ cond t 1 (cond m 2 0)
+          → number r ≡ cond t (number 1) (cond m (number 2) (cond (farPlace centre || farPlace origin) (number 8) (edgeOf (smoothed (tile l w h origin centre)))))
+      go true m e = ap number e
+      go false true e = ap number e
+      go false false e = absurd (n e)
+
+  module _ (z : r ≡ 0) where
+    fitting : (tooLarge w h ≡ false) × (misfit (length l) w h ≡ false)
+    fitting = go (tooLarge w h) (misfit (length l) w h) (sym e ∙ z)
+      where
+        go : (t m : Bool) → _≡_ {A = ℕ} (cond t 1 (cond m 2 0)) 0 → (t ≡ false) × (m ≡ false)
+        go true m g = absurd (let q : _≡_ {A = ℕ} 1 0 = g in omega arith)
+        go false true g = absurd (let q : _≡_ {A = ℕ} 2 0 = g in omega arith)
+        go false false g = (refl, refl)
+
+    pub long-is : length l ≡ w * h
+    long-is = eqb-true (length l) (w * h) (not-false (eqb (length l) (w * h)) (fitting .1))
+
+    pub centre-far : farPlace centre ≡ true → number 8 ≡ edge l w h origin centre
+    unfolding edge
+    centre-far f = rw (fitting .0, fitting .1, f) refl
+
+    module _ (n : farPlace centre ≡ false) where
+      pub origin-far : farPlace origin ≡ true → number 8 ≡ edge l w h origin centre
+      unfolding edge
+      origin-far f = rw (fitting .0, fitting .1, n, f) refl
+
+      module _ (m : farPlace origin ≡ false) (samples : List Float) (s : samples ≡ inRows (tile l w h origin centre) 289) where
+        pub answer-is : edgeOf (smoothed (read samples)) ≡ edge l w h origin centre
+        unfolding edge
+        answer-is =
+            edge-same (smoothed (read samples)) (smoothed (tile l w h origin centre))
+            (smooth-same (read samples) (tile l w h origin centre) (λ y x a b. ap (λ (t : List Float). read t y x) s ∙ read-rows (tile l w h origin centre) 289 y x (omega arith) (omega arith)))
+            ∙ rw (fitting .0, fitting .1, n, m) refl
+
+-- a pixel is a byte
+pixel-small : (l : List ℕ) (w h : ℕ) (o : List ℤ) (x y : ℤ) → ((i : ℕ) → getD l i 0 ≤ 255) → pixel l w h o x y ≤ 255
+unfolding pixel
+pixel-small l w h o x y b = cond-both (λ (n : ℕ). n ≤ 255) (eqb w 0 || eqb h 0) 0 _ (omega arith) (b _)
+
+pub samples-upto : (l : List ℕ) (w h : ℕ) (origin centre : List ℤ) (samples : List Float) → samples ≡ inRows (tile l w h origin centre) 289 → ((i : ℕ) → getD l i 0 ≤ 255)
+    → (k : ℕ) → k < 289 → Upto 255 (getD samples k nan)
+samples-upto l w h origin centre samples s b k g = record {
+    number = pixel l w h origin _ _;
+    is = ap (λ (t : List Float). getD t k nan) s ∙ getD-from (λ i. tile l w h origin centre (i / 17) (i % 17)) nan 289 0 k g;
+    small = pixel-small l w h origin _ _ b }

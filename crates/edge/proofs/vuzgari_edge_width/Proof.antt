@@ -1,0 +1,31 @@
+-- The code of the answer; what the machine holds of the four signed numbers is the numbers.
+use mathlib.Core.Path.{_≡_, refl, ap, _∙_}
+use mathlib.Core.List.{List, [], _∷_}
+use Prim.Native.Nat.{ℕ}
+use borrow.Author.Needs.{needs}
+use lib.IntN.{ℤ}
+use mir.Facts.{toZ-ofZ}
+use denote.Ref.{now}
+use Rattle.tile.specs.Width.{Answer}
+use Rattle.edge.specs.Edge.{edge}
+use Rattle.edge.specs.Code as Code
+use Rattle.edge.proofs.vuzgari_edge_width.Statement.{statement}
+use Rattle.edge.proofs.vuzgari_edge_width.Tie as tie
+
+same : (l : List ℕ) (w h : ℕ) {a b c d a′ b′ c′ d′ : ℤ} → a ≡ a′ → b ≡ b′ → c ≡ c′ → d ≡ d′ → edge l w h (a ∷ b ∷ []) (c ∷ d ∷ []) ≡ edge l w h (a′ ∷ b′ ∷ []) (c′ ∷ d′ ∷ [])
+same l w h p q r s = λ i. edge l w h (p i ∷ q i ∷ []) (r i ∷ s i ∷ [])
+
+edge-width-requires : tie.Need-edge-width-requires
+edge-width-requires c κs = search needs
+
+code-requires : tie.Need-code-requires
+code-requires c κs = search needs
+
+returns : tie.Need-returns
+returns c =
+    let s = c .before .before .before in
+    c .code .ensures
+    ∙ ap Code.code (c .before .edge-width .ensures ∙ same (now (s .args .pixels)) (s .args .width) (s .args .height) (toZ-ofZ (s .fits .ox)) (toZ-ofZ (s .fits .oy)) (toZ-ofZ (s .fits .cx)) (toZ-ofZ (s .fits .cy)))
+
+pub vuzgari-edge-width-spec : {M : Type 1} → statement M
+vuzgari-edge-width-spec = tie.close (tie.spec edge-width-requires code-requires returns)

@@ -1,0 +1,17 @@
+-- The edge call: 1, 2, 8 in this order, then 9 or the width.
+use Prim.Native.Nat.{ℕ}
+use mathlib.Core.Bool.{cond, _||_}
+use mathlib.Core.List.{List}
+use lib.ListN.{length}
+use lib.IntN.{ℤ}
+use Rattle.imageview.specs.Limits.{tooLarge, misfit, farPlace}
+use Rattle.tile.specs.Tile.{tile}
+use Rattle.tile.specs.Smoothing.{smoothed}
+use Rattle.tile.specs.Width.{Answer, number, edgeOf}
+
+unfoldable pub edge : List ℕ → ℕ → ℕ → List ℤ → List ℤ → Answer
+edge l w h origin centre =
+    cond (tooLarge w h) (number 1)
+    (cond (misfit (length l) w h) (number 2)
+    (cond (farPlace centre || farPlace origin) (number 8)
+    (edgeOf (smoothed (tile l w h origin centre)))))

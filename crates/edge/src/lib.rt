@@ -1,0 +1,64 @@
+// The edge call: uncertainty.rs, `edge_width`, on a lent slice and numbers, also from C.
+ghost use mathlib.Core.Path.{_≡_};
+ghost use mathlib.Core.List.{[], _∷_};
+ghost use Rattle.tile.specs.Width.{answer};
+ghost use Rattle.edge.specs.Edge.{edge};
+ghost use Rattle.edge.specs.Code as Code;
+
+use tile::EdgeWidth;
+use tile::PixelTile;
+
+// The width of the edges about the centre, or the first of 1, 2, 8, 9 that applies.
+pub fn edge_width(pixels: &[u8], width: usize, height: usize, origin: [i32; 2], centre: [i32; 2]) -> EdgeWidth
+    ensures { λ r. ⌜ answer r ≡ edge (now (pixels .entry)) width height origin centre ⌝ }
+{
+    let refused = imageview::judge(pixels, width, height);
+    if refused != 0 {
+        return EdgeWidth::Refused(refused);
+    }
+    if imageview::far_place(centre) {
+        return EdgeWidth::Refused(8);
+    }
+    if imageview::far_place(origin) {
+        return EdgeWidth::Refused(8);
+    }
+    let tile = PixelTile::load(pixels, width, height, origin, centre);
+    tile.edge_width()
+}
+
+fn wide(x: u32) -> u64
+    ensures { λ r. ⌜ r ≡ x ⌝ }
+{
+    x as u64
+}
+
+// An answer as one number.
+pub fn code(e: EdgeWidth) -> u64
+    ensures { λ r. ⌜ r ≡ Code.code (answer e) ⌝ }
+{
+    match e {
+        EdgeWidth::Width(x) => {
+            if x != x {
+                return 0x7fc0_0000;
+            }
+            wide(f32::to_bits(x))
+        }
+        EdgeWidth::Refused(n) => 4294967296 + wide(n),
+    }
+}
+
+// The edge call for C, with origin (ox, oy) and centre (cx, cy): the width's bits, or 4,294,967,296 plus the number.
+#[no_mangle]
+pub extern "C" fn vuzgari_edge_width(
+    pixels: &[u8],
+    width: usize,
+    height: usize,
+    ox: i32,
+    oy: i32,
+    cx: i32,
+    cy: i32,
+) -> u64
+    ensures { λ r. ⌜ r ≡ Code.code (edge (now (pixels .entry)) width height (ox ∷ oy ∷ []) (cx ∷ cy ∷ [])) ⌝ }
+{
+    code(edge_width(pixels, width, height, [ox, oy], [cx, cy]))
+}

@@ -1,0 +1,3 @@
+pub mod Pairs
+pub mod Apart
+pub mod Nearest

@@ -1,0 +1,29 @@
+-- The code's float constants are the numbers that the definitions name, rounded once.
+use mathlib.Core.Path.{_≡_, refl}
+use mathlib.Core.Bool.{true, false}
+use lib.Ieee.{Float, inf, binary32, ofBits, ofInt, round, neg, div}
+use Rattle.levels.specs.Whole.{whole}
+
+pub zero-is : ofBits binary32 0 ≡ whole 0
+unfolding ofBits ofInt
+zero-is = refl
+
+pub one-is : ofBits binary32 0x3f80_0000 ≡ whole 1
+unfolding ofBits ofInt
+one-is = refl
+
+pub fifth-is : ofBits binary32 0x3e4c_cccd ≡ round binary32 false 1 5
+unfolding ofBits round
+fifth-is = refl
+
+pub half-is : ofBits binary32 0x3f00_0000 ≡ round binary32 false 1 2
+unfolding ofBits round
+half-is = refl
+
+pub eight-is : ofBits binary32 0x4100_0000 ≡ whole 8
+unfolding ofBits ofInt
+eight-is = refl
+
+pub minus-infinity-is : div binary32 (neg (ofBits binary32 0x3f80_0000)) (ofBits binary32 0) ≡ inf true
+unfolding ofBits neg div
+minus-infinity-is = refl

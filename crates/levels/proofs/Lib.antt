@@ -1,0 +1,6 @@
+pub mod Constants
+pub mod Folds
+pub mod Contrasts
+pub mod Largests
+pub mod Wholes
+pub mod Sums

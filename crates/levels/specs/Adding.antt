@@ -1,0 +1,17 @@
+-- A way of adding numbers: which, in which order, and how they are grouped.
+use Prim.Native.Nat.{ℕ, _+_}
+use lib.Ieee.{Float, binary32, add}
+use Rattle.levels.specs.Whole.{whole}
+
+pub data Adding : Type 0 where
+  one : ℕ → Adding
+  both : Adding → Adding → Adding
+
+-- the sum as a whole number, and the sum that f32 additions in this way make
+abbrev pub exactly : Adding → ℕ
+exactly (one n) = n
+exactly (both a b) = exactly a + exactly b
+
+abbrev pub inFloats : Adding → Float
+inFloats (one n) = whole n
+inFloats (both a b) = add binary32 (inFloats a) (inFloats b)

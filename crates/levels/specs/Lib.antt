@@ -1,0 +1,6 @@
+pub mod Whole
+pub mod Kept
+pub mod Clear
+pub mod Levels
+pub mod Steepness
+pub mod Adding

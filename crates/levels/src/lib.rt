@@ -1,0 +1,160 @@
+// The levels of 81 values and the mean of the largest of 81 gradients: uncertainty.rs, parts of `PixelTile::edge_width`.
+ghost use mathlib.Core.Path.{_≡_};
+ghost use Prim.Native.Nat.{_≤_, max};
+ghost use mathlib.Core.List.{map};
+ghost use lib.Dec.{T};
+ghost use lib.ListN.{length, drop};
+ghost use lib.Ieee.{binary32, sub, div, le};
+ghost use Rattle.ieee.specs.Sqrt.{sqrt};
+ghost use Rattle.quantile.specs.Rising.{inserted};
+ghost use Rattle.levels.specs.Whole.{whole};
+ghost use Rattle.levels.specs.Kept.{kept};
+ghost use Rattle.levels.specs.Clear.{clear, AllClear};
+ghost use Rattle.levels.specs.Levels as Levels;
+ghost use Rattle.levels.specs.Steepness as Steepness;
+
+fn highest(values: &[f32; 81]) -> f32
+    requires { ⌜ length (now values) ≡ 81 ⌝ }
+    ensures { λ r. ⌜ r ≡ Levels.highest (now (values .entry)) ⌝ }
+{
+    let mut most = -1.0f32 / 0.0;
+    let mut m = 0;
+    while m < 81 {
+        most = float::max32(most, values[m]);
+        m += 1;
+    }
+    most
+}
+
+fn lowest(values: &[f32; 81]) -> f32
+    requires { ⌜ length (now values) ≡ 81 ⌝ }
+    ensures { λ r. ⌜ r ≡ Levels.lowest (now (values .entry)) ⌝ }
+{
+    let mut least = 1.0f32 / 0.0;
+    let mut m = 0;
+    while m < 81 {
+        least = float::min32(least, values[m]);
+        m += 1;
+    }
+    least
+}
+
+// sum over n, or over 1 where n is 0.
+fn mean(sum: f32, n: u32) -> f32
+    requires { ⌜ n ≤ 81 ⌝ }
+    ensures { λ r. ⌜ r ≡ div binary32 sum (whole (max n 1)) ⌝ }
+{
+    if n == 0 {
+        return sum / 1.0;
+    }
+    sum / n as f32
+}
+
+// The mean of the values from the cut up.
+fn mean_from(values: &[f32; 81], cut: f32) -> f32
+    requires { ⌜ length (now values) ≡ 81 ⌝ }
+    ensures { λ r. ⌜ r ≡ Levels.mean (kept (λ v. le cut v) (now (values .entry))) ⌝ }
+{
+    let mut sum = 0.0f32;
+    let mut n: u32 = 0;
+    let mut m = 0;
+    while m < 81 {
+        let v = values[m];
+        if v >= cut {
+            sum = sum + v;
+            n += 1;
+        }
+        m += 1;
+    }
+    mean(sum, n)
+}
+
+// The mean of the values up to the cut.
+fn mean_upto(values: &[f32; 81], cut: f32) -> f32
+    requires { ⌜ length (now values) ≡ 81 ⌝ }
+    ensures { λ r. ⌜ r ≡ Levels.mean (kept (λ v. le v cut) (now (values .entry))) ⌝ }
+{
+    let mut sum = 0.0f32;
+    let mut n: u32 = 0;
+    let mut m = 0;
+    while m < 81 {
+        let v = values[m];
+        if v <= cut {
+            sum = sum + v;
+            n += 1;
+        }
+        m += 1;
+    }
+    mean(sum, n)
+}
+
+// The contrast of the disk: its high level less its low level.
+pub fn contrast(values: &[f32; 81]) -> f32
+    requires { ⌜ length (now values) ≡ 81 ⌝ }
+    ensures { λ r. ⌜ r ≡ sub binary32 (Levels.highLevel (now (values .entry))) (Levels.lowLevel (now (values .entry))) ⌝ }
+{
+    let most = highest(values);
+    let least = lowest(values);
+    let band = 0.2 * (most - least);
+    mean_from(values, most - band) - mean_upto(values, least + band)
+}
+
+// v among the eight largest so far, which rise; the smallest falls out.
+fn insert(top: &mut [f32; 8], v: f32)
+    requires { ⌜ (length (now top) ≡ 8) × AllClear (now top) × T (clear v) ⌝ }
+    ensures { λ _. ⌜ now (top .exit) ≡ drop 1 (inserted v (now (top .entry))) ⌝ }
+{
+    let least = top[0];
+    if v < least {
+        return;
+    }
+    let mut j = 0;
+    while j < 7 {
+        let x = top[j + 1];
+        if v < x {
+            top[j] = v;
+            return;
+        }
+        top[j] = x;
+        j += 1;
+    }
+    top[7] = v;
+}
+
+// The eight largest, the smallest of them first.
+fn largest(gradients: &[f32; 81]) -> [f32; 8]
+    requires { ⌜ (length (now gradients) ≡ 81) × AllClear (now gradients) ⌝ }
+    ensures { λ r. ⌜ r ≡ Steepness.largest (now (gradients .entry)) ⌝ }
+{
+    let mut top = [0.0f32; 8];
+    let mut m = 0;
+    while m < 81 {
+        let v = gradients[m];
+        insert(&mut top, v);
+        m += 1;
+    }
+    top
+}
+
+// The roots, added from the first on.
+fn add_roots(top: &[f32; 8]) -> f32
+    requires { ⌜ length (now top) ≡ 8 ⌝ }
+    ensures { λ r. ⌜ r ≡ Levels.total (map (sqrt binary32) (now (top .entry))) ⌝ }
+{
+    let mut sum = 0.0f32;
+    let mut k = 0;
+    while k < 8 {
+        sum = sum + float::sqrt32(top[k]);
+        k += 1;
+    }
+    sum
+}
+
+// The gradient mean.
+pub fn steepness(gradients: &[f32; 81]) -> f32
+    requires { ⌜ (length (now gradients) ≡ 81) × AllClear (now gradients) ⌝ }
+    ensures { λ r. ⌜ r ≡ Steepness.steepness (now (gradients .entry)) ⌝ }
+{
+    let top = largest(gradients);
+    0.5 * add_roots(&top) / 8.0
+}

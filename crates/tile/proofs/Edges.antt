@@ -1,0 +1,55 @@
+-- What the steps of `edge_width` leave, put together: the answer of the tile's smoothed square.
+use mathlib.Core.Path.{_≡_, refl, sym, ap, _∙_, subst}
+use mathlib.Core.Bool.{Bool, true, false, cond}
+use mathlib.Core.List.{List}
+use Prim.Native.Nat.{ℕ, _+_, _*_, _≤_, _<_}
+use native.Mathlib.Omega.{arith}
+use lib.ListN.{getD}
+use lib.Ieee.{Float, nan, binary32, sub, mul, div, lt, ofBits}
+use Rattle.laws.proofs.Choice.{chosen, passed}
+use Rattle.levels.specs.Whole.{whole, Upto}
+use Rattle.levels.specs.Clear.{AllClear}
+use Rattle.tile.specs.Tile.{inRows, read}
+use Rattle.tile.specs.Smoothing.{down, across, smoothed}
+use Rattle.tile.specs.Gradients.{values, gradients}
+use Rattle.levels.specs.Levels.{highLevel, lowLevel}
+use Rattle.tile.specs.Width.{Answer, width, number, rootTwoPi, edgeOf}
+use Rattle.levels.specs.Steepness.{steepness}
+use Rattle.levels.proofs.Constants.{zero-is}
+use Rattle.tile.proofs.Constants.{root-is}
+use Rattle.tile.proofs.Places.{Agree, values-same, gradients-same, smooth-read}
+use Rattle.tile.proofs.Smoothed.{smooth-upto, gradients-clear}
+
+-- squares that agree on 13 rows of 13 have the same answer
+pub edge-same : (s t : ℕ → ℕ → Float) → Agree s t → edgeOf s ≡ edgeOf t
+edge-same s t h = rw (gradients-same s t h, values-same s t h) refl
+
+module _ (samples rows smooth grads : List Float) (p : rows ≡ inRows (down (read samples)) 221) (q : smooth ≡ inRows (across (read rows)) 217) (r : grads ≡ gradients (read smooth)) where
+  grads-are : grads ≡ gradients (smoothed (read samples))
+  grads-are = r ∙ gradients-same (read smooth) (smoothed (read samples)) (smooth-read (read samples) rows smooth p q)
+
+  pub grads-clear : ((k : ℕ) → k < 289 → Upto 255 (getD samples k nan)) → AllClear grads
+  grads-clear h = subst AllClear (sym grads-are) (gradients-clear (smoothed (read samples)) (smooth-upto (read samples) (λ y x a b. h (y * 17 + x) (omega arith))))
+
+  module _ (g : Float) (e : g ≡ steepness grads) where
+    abbrev steep : Float
+    steep = steepness (gradients (smoothed (read samples)))
+
+    g-is : g ≡ steep
+    g-is = e ∙ ap steepness grads-are
+
+    test-is : lt (ofBits binary32 0) g ≡ lt (whole 0) steep
+    test-is = λ i. lt (zero-is i) (g-is i)
+
+    pub flat-is : lt (ofBits binary32 0) g ≡ false → number 9 ≡ edgeOf (smoothed (read samples))
+    flat-is h = passed (lt (whole 0) steep) _ (number 9) (sym test-is ∙ h)
+
+    pub width-is : (vals : List Float) (contrast : Float) → vals ≡ values (read smooth) → contrast ≡ sub binary32 (highLevel vals) (lowLevel vals) → lt (ofBits binary32 0) g ≡ true
+        → width (div binary32 contrast (mul binary32 (ofBits binary32 0x4020_6c99) g)) ≡ edgeOf (smoothed (read samples))
+    width-is vals contrast v c h =
+        (λ i. width (div binary32 (contrast-is i) (mul binary32 (root-is i) (g-is i)))) ∙ chosen (lt (whole 0) steep) _ (number 9) (sym test-is ∙ h)
+      where
+        vals-are : vals ≡ values (smoothed (read samples))
+        vals-are = v ∙ values-same (read smooth) (smoothed (read samples)) (smooth-read (read samples) rows smooth p q)
+        contrast-is : contrast ≡ sub binary32 (highLevel (values (smoothed (read samples)))) (lowLevel (values (smoothed (read samples))))
+        contrast-is = c ∙ (λ i. sub binary32 (highLevel (vals-are i)) (lowLevel (vals-are i)))

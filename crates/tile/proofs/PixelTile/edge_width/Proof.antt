@@ -1,0 +1,58 @@
+-- The steps put together; the gradients of whole numbers are clear, so that the eight largest are theirs.
+use borrow.Author.Needs.{needs}
+use Rattle.tile.proofs.Edges.{grads-clear, flat-is, width-is}
+use Rattle.tile.proofs.PixelTile.edge_width.Statement.{statement}
+use Rattle.tile.proofs.PixelTile.edge_width.Tie as tie
+
+down-requires : tie.Need-down-requires
+down-requires c κs = search needs
+
+across-requires : tie.Need-across-requires
+across-requires c κs = search needs
+
+gradients-requires : tie.Need-gradients-requires
+gradients-requires c κs = search needs
+
+steepness-requires : tie.Need-steepness-requires
+steepness-requires c κs =
+    let b = c .before in
+    let d = b .before .before .before .before in
+    let s = d .before .before .before in
+    (search needs, grads-clear (s .args .self .samples) (d .down .result) (b .before .before .across .result) (b .gradients .result) (d .down .ensures) (b .before .before .across .ensures) (b .gradients .ensures) (s .pre))
+
+values-requires : tie.Need-values-requires
+values-requires c κs = search needs
+
+contrast-requires : tie.Need-contrast-requires
+contrast-requires c κs = search needs
+
+returns : tie.Need-returns
+returns c =
+    let e = c .before .before .before .before .before in
+    let b = e .before .before in
+    let d = b .before .before .before .before in
+    let s = d .before .before .before in
+    width-is (s .args .self .samples) (d .down .result) (b .before .before .across .result) (b .gradients .result) (d .down .ensures) (b .before .before .across .ensures) (b .gradients .ensures)
+    (e .steepness .result) (e .steepness .ensures) (c .before .before .values .result) (c .contrast .result) (c .before .before .values .ensures) (c .contrast .ensures) (c .before .before .before .before .if1 .taken)
+
+returns-2 : tie.Need-returns-2
+returns-2 c =
+    let e = c .before in
+    let b = e .before .before in
+    let d = b .before .before .before .before in
+    let s = d .before .before .before in
+    flat-is (s .args .self .samples) (d .down .result) (b .before .before .across .result) (b .gradients .result) (d .down .ensures) (b .before .before .across .ensures) (b .gradients .ensures)
+    (e .steepness .result) (e .steepness .ensures) (c .if1 .left)
+
+pub edge-width-spec : {M : Type 1} → statement M
+edge-width-spec =
+    tie.close
+    (tie.spec
+    down-requires
+    across-requires
+    gradients-requires
+    steepness-requires
+    values-requires
+    contrast-requires
+    returns
+    returns-2)

@@ -1,0 +1,5 @@
+pub mod Tile
+pub mod Smoothing
+pub mod Disk
+pub mod Gradients
+pub mod Width
