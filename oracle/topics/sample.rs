@@ -1,12 +1,12 @@
 //! `collect` beside `Sample::collect`: counts, rail, gates and squared outputs; the columns beside the original's `window` at
 //! each place of its grid; and what is lent beyond them, as it was.
 
-use super::{grid::*, Image, Run, Topic, Value};
+use super::{beside, grid::*, Image, Run, Topic, Value};
 use crate::{images::KINDS, random::Random};
 use original::{counted, counts, grid as expressions, noise};
-use std::iter::repeat_with;
+use std::{cell::RefCell, iter::repeat_with};
 
-pub const TOPIC: Topic = Topic { name: "sample", gate: true, compare, store: None, speed: None };
+pub const TOPIC: Topic = Topic { name: "sample", gate: true, compare, store: None, speed: Some(speed) };
 
 unsafe extern "C" {
     fn vuzgari_compare_collect(
@@ -25,7 +25,7 @@ unsafe extern "C" {
 }
 
 /// Seeded images in the gate.
-const GATE: u64 = 4_000;
+const GATE: u64 = 2_000;
 
 fn compare(run: &mut Run) {
     let mut random = run.random("images");
@@ -117,12 +117,7 @@ fn ours(lid: &Lid) -> Pass {
     let img = lid.pixels();
     let t = vuzgari_compare_total(w, h, lid.windows);
     let (mut ints, mut floats, mut counts) = (vec![FILL.0; 3 * t + 5], vec![FILL.1; 2 * t + 4], vec![FILL.2; 6]);
-    unsafe {
-        vuzgari_compare_collect(
-            img.as_ptr(), img.len(), w, h, lid.windows,
-            ints.as_mut_ptr(), ints.len(), floats.as_mut_ptr(), floats.len(), counts.as_mut_ptr(), counts.len(),
-        );
-    }
+    collect(&img, w, h, lid.windows, &mut ints, &mut floats, &mut counts);
     let five: [usize; 5] = counts[..5].try_into().unwrap();
     let kept: usize = five[..4].iter().sum();
     let rest = floats[2 * kept + 1..].iter().chain([&floats[kept]]).all(|&x| x == FILL.1)
@@ -145,4 +140,34 @@ fn theirs(lid: &Lid) -> Pass {
         }
     }
     ([b0, b1, b2, b3, counts.rail], sample.gate().to_vec(), sample.op().to_vec(), columns.concat(), true)
+}
+
+fn collect(img: &[u8], w: usize, h: usize, windows: usize, ints: &mut [i32], floats: &mut [f32], counts: &mut [usize]) {
+    assert!(w >= 4 && h >= 4 && img.len() == w * h && counts.len() >= 5);
+    unsafe {
+        vuzgari_compare_collect(
+            img.as_ptr(), img.len(), w, h, windows,
+            ints.as_mut_ptr(), ints.len(), floats.as_mut_ptr(), floats.len(), counts.as_mut_ptr(), counts.len(),
+        );
+    }
+}
+
+/// A pass over a noisy flat image and over one of any bytes, ours into lent memory.
+fn speed() {
+    for (w, h) in [(640, 480), (1_920, 1_080), (4_096, 3_072)] {
+        for (name, kind) in [("flat", 0), ("any bytes", BYTES)] {
+            for windows in PASSES {
+                let img = Lid { image: Image { w, h, kind, seed: 3 }, windows }.pixels();
+                let t = vuzgari_compare_total(w, h, windows);
+                let memory = RefCell::new((vec![0i32; 3 * t], vec![0f32; 2 * t + 2], vec![0usize; 5]));
+                let ours = |_: &()| {
+                    let (ints, floats, counts) = &mut *memory.borrow_mut();
+                    collect(&img, w, h, windows, ints, floats, counts);
+                    counts[0]
+                };
+                let what = format!("collect {w} by {h}, {name}, W {windows}");
+                beside(&what, &[(); 1], ours, |_| noise::Sample::collect(&img, w, h, windows).0.start[1]);
+            }
+        }
+    }
 }

@@ -1,5 +1,5 @@
 -- `sample::collect` meets its contract: the figures are read back from the columns as they were laid.
-use mathlib.Core.Path.{_≡_, sym, ap, _∙_}
+use mathlib.Core.Path.{sym, ap, _∙_}
 use mathlib.Core.List.{List}
 use native.Mathlib.Omega.{arith}
 use lib.ListN.{length-map}

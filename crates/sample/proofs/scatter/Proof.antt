@@ -2,16 +2,15 @@
 use mathlib.Core.Path.{_≡_, refl, sym, ap, _∙_, subst}
 use mathlib.Core.List.{List, [], _∷_}
 use mathlib.Core.Logic.{⊎-elim}
-use Prim.Native.Nat.{ℕ, zero, suc, _+_, _-_, _*_, _≤_, _<_}
+use Prim.Native.Nat.{ℕ, _+_, _-_, _*_, _≤_, _<_}
 use native.Mathlib.Omega.{arith}
 use lib.ListN.{length, getD, set}
 use lib.IntN.{ℤ, pos}
 use lib.Ieee.{Float}
 use denote.Ref.{now}
 use Rattle.laws.proofs.Machine.{held-of}
-use Rattle.sample.specs.declared.Sample.{Sample}
-use Rattle.sample.specs.Columns.{columnCount, figureIn, figuresIn}
-use Rattle.sample.specs.Bands.{rail, bandOf, countOf, keptOf, sampleOf}
+use Rattle.sample.specs.Columns.{figureIn, figuresIn}
+use Rattle.sample.specs.Bands.{rail, bandOf, keptOf}
 use Rattle.sample.specs.Laid.{gate32, square32}
 use Rattle.sample.proofs.Counting.{Counts, counts}
 use Rattle.sample.proofs.Scattering.{Scattering, starts, kept-by, kept-room, place-kept, scatter-start, scatter-hit, scatter-miss, scatter-end}
