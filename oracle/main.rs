@@ -2,12 +2,14 @@
 //! compare --store TOPIC                                     writes the topic's stored answers into crates/stored_TOPIC
 //! compare --speed TOPIC                                     times the topic's calls beside the original's
 //!
-//! Without --seconds and --count each kind of call is run on as many inputs as its topic sets for the gate. --count sets that
-//! number. --seconds runs smaller turns, each with a seed of its own, until the time is over. The first difference ends the
-//! run with status 1 and is printed as a call, with floats as hexadecimal patterns. At the gate's size the stored answers are
-//! held to what --store would write.
+//! Without --seconds and --count each kind of call is run on as many inputs as its topic sets for the gate, and the stored answers
+//! are held to what --store would write. --count sets that number. --seconds runs smaller turns, each with inputs of its own, until
+//! the time is over. The first difference ends the run with status 1: it is made smaller while it still differs, and printed as a
+//! call, with floats as hexadecimal patterns.
 
+mod images;
 mod random;
+mod speed;
 mod topics;
 mod value;
 
@@ -88,9 +90,12 @@ impl Run {
         mut theirs: impl FnMut(&A) -> R,
     ) {
         let mut n = 0;
-        for input in inputs {
-            let (got, want) = (ours(&input), theirs(&input));
-            if !got.same(&want) {
+        for mut input in inputs {
+            if !ours(&input).same(&theirs(&input)) {
+                while let Some(smaller) = input.smaller().into_iter().find(|input| !ours(input).same(&theirs(input))) {
+                    input = smaller;
+                }
+                let (got, want) = (ours(&input), theirs(&input));
                 println!("compare: {} {what}({}) is {}, the original's {}", self.topic, input.shown(), got.shown(), want.shown());
                 println!("compare: seed {}, turn {}, after {n} that agree", self.seed, self.turn);
                 exit(1);

@@ -1,6 +1,7 @@
-//! The topics: a file each, named here.
+//! The topics: a file each, named here. What a topic calls that is not among the library's C calls, a module of crates/compare
+//! exports for it.
 
-use crate::{random, value::Value, Run, Stored, Topic};
+use crate::{images::Image, random, speed::beside, value::Value, Run, Stored, Topic};
 
 mod floats;
 mod known;

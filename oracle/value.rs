@@ -1,8 +1,15 @@
-//! Arguments and results: when two are the same, and how they are printed.
+//! Arguments and results: when two are the same, how they are printed, and which smaller ones to try where a call differs.
 
 pub trait Value {
     fn same(&self, other: &Self) -> bool;
     fn shown(&self) -> String;
+    /// With sides or counts halved.
+    fn smaller(&self) -> Vec<Self>
+    where
+        Self: Sized,
+    {
+        vec![]
+    }
 }
 
 macro_rules! floats {
@@ -67,12 +74,18 @@ impl<T: Value, const N: usize> Value for [T; N] {
     }
 }
 
-impl<T: Value> Value for Vec<T> {
+impl<T: Value + Clone> Value for Vec<T> {
     fn same(&self, other: &Self) -> bool {
         self[..].same(&other[..])
     }
     fn shown(&self) -> String {
         self[..].shown()
+    }
+    fn smaller(&self) -> Vec<Self> {
+        match self.len() {
+            0 => vec![],
+            n => vec![self[..n / 2].to_vec(), self[n - n / 2..].to_vec()],
+        }
     }
 }
 

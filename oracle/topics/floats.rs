@@ -1,7 +1,7 @@
 //! The float helpers beside the hardware's own operations: all special values and all pairs of them, then seeded inputs.
 
-use super::{random::*, Run, Stored, Topic, Value};
-use std::{hint::black_box, iter::repeat_with, time::Instant};
+use super::{beside, random::*, Run, Stored, Topic, Value};
+use std::iter::repeat_with;
 
 pub const TOPIC: Topic = Topic { name: "floats", gate: true, compare, store: Some(store), speed: Some(speed) };
 
@@ -176,34 +176,12 @@ fn store() -> Stored {
     stored
 }
 
-/// Nanoseconds for a call, of independent calls one after the other, ours and the hardware's in turns; the median of the turns.
 fn speed() {
     let mut random = Random::new(1);
     let doubles: Vec<f64> = repeat_with(|| random.below(1 << 32) as f64 / 3.0).take(4096).collect();
     let singles: Vec<f32> = doubles.iter().map(|&x| x as f32).collect();
-    beside("sqrt32", &singles, vuzgari_compare_sqrt32, f32::sqrt);
-    beside("floor32", &singles, vuzgari_compare_floor32, f32::floor);
-    beside("sqrt64", &doubles, vuzgari_compare_sqrt64, f64::sqrt);
-    beside("to_f32", &doubles, vuzgari_compare_to_f32, |x| x as f32);
-}
-
-fn beside<A: Copy, R>(what: &str, inputs: &[A], ours: extern "C" fn(A) -> R, theirs: impl Fn(A) -> R) {
-    let mut times = [vec![], vec![]];
-    for _ in 0..101 {
-        times[0].push(time(inputs, |x| ours(x)));
-        times[1].push(time(inputs, &theirs));
-    }
-    let [ours, theirs] = times.map(|mut turns| {
-        turns.sort_by(f64::total_cmp);
-        turns[turns.len() / 2]
-    });
-    println!("{what}: {ours:.2} ns a call, the hardware's {theirs:.2}");
-}
-
-fn time<A: Copy, R>(inputs: &[A], call: impl Fn(A) -> R) -> f64 {
-    let began = Instant::now();
-    for &input in inputs {
-        black_box(call(black_box(input)));
-    }
-    began.elapsed().as_secs_f64() * 1e9 / inputs.len() as f64
+    beside("sqrt32", &singles, |&x| vuzgari_compare_sqrt32(x), |&x| x.sqrt());
+    beside("floor32", &singles, |&x| vuzgari_compare_floor32(x), |&x| x.floor());
+    beside("sqrt64", &doubles, |&x| vuzgari_compare_sqrt64(x), |&x| x.sqrt());
+    beside("to_f32", &doubles, |&x| vuzgari_compare_to_f32(x), |&x| x as f32);
 }

@@ -1,19 +1,18 @@
--- A positive finite f64 with all of its 53 digits: what the proof of `scaled` cites. Assumes nothing.
+-- An f64 above zero and finite, with all of 53 digits: a normal one has them, and the digits of a subnormal one move up until the first is a 1.
 use mathlib.Core.Path.{_≡_, refl, sym, ap, _∙_, subst}
-use mathlib.Core.Bool.{Bool, true, false}
-use Prim.Native.Nat.{ℕ, zero, suc, _+_, _-_, _*_, _/_, _%_, _^_, _≤_, _<_}
-use native.Mathlib.Nat.{le-trans, le-of-eq, lt-of-lt-of-le, lt-of-le-of-lt, mul-assoc, mul-comm, mul-right-comm, mul-le-mul-right, mul-lt-mul-of-pos-right}
+use mathlib.Core.Bool.{Bool, false}
+use Prim.Native.Nat.{ℕ, suc, _+_, _-_, _*_, _/_, _%_, _^_, _≤_, _<_}
+use native.Mathlib.Nat.{le-trans, le-of-eq, lt-of-lt-of-le, lt-of-le-of-lt, mul-assoc, mul-right-comm, mul-le-mul-right}
 use native.Mathlib.Omega.{arith}
-use lib.Pow.{pow-add, pow-pos, pow-mono, shl-lt}
+use lib.Pow.{pow-add, pow-mono, shl-lt}
 use lib.Count.{leadingZeros, leading-top}
 use lib.Ieee.{Float, nan, inf, fin, binary64, ofBits, up, down}
 use lib.Ieee.Exact.{HasValue}
 use Rattle.float.specs.Scaled.{IsScaled}
 use Rattle.ieee.proofs.Naturals.{pow-lt-back}
-use Rattle.ieee.proofs.Values.{rescale}
 use Rattle.ieee.proofs.Reading.{read-low, read-high}
 
-pub scale-value : (x : Float) (s : Bool) (a c k : ℕ) → HasValue x s a c → HasValue x s (a * k) (c * k)
+scale-value : (x : Float) (s : Bool) (a c k : ℕ) → HasValue x s a c → HasValue x s (a * k) (c * k)
 scale-value nan s a c k v = v
 scale-value (inf t) s a c k v = v
 scale-value (fin t m e) s a c k v = (v .0, sym (mul-assoc (m * up e) c k) ∙ ap (λ (y : ℕ). y * k) (v .1) ∙ mul-right-comm a (down e) k)
@@ -60,7 +59,7 @@ module _ (a : ℕ) (A : a < 0x7ff0_0000_0000_0000) where
     up-is : 52 ≡ top-digit .0 + (lz - 11)
     up-is = omega (arith, j-lt, top-digit .1)
 
-    pub low-lo : 2 ^ 52 ≤ low * 2 ^ (lz - 11)
+    low-lo : 2 ^ 52 ≤ low * 2 ^ (lz - 11)
     low-lo = le-trans (le-of-eq (ap (λ (y : ℕ). 2 ^ y) up-is ∙ pow-add 2 (top-digit .0) (lz - 11))) (mul-le-mul-right (2 ^ (lz - 11)) (top-digit .2))
 
     pub low-hi : low * 2 ^ (lz - 11) < 2 ^ 53

@@ -1,10 +1,9 @@
-// The float leaves: what Rattle's own casts and operators leave out.
+// The operations of Rust's f32 and f64 that Rattle's casts and operators lack. Each answers for every
+// input, and its result is what a definition of the crate `ieee` gives.
 ghost use mathlib.Core.Path.{_≡_};
 ghost use Prim.Native.Nat.{ℕ, _+_, _*_, _/_, _%_, _^_, _<_, _≤_};
-ghost use mathlib.Core.Bool.{true, false, cond};
-ghost use lib.Dec.{T};
 ghost use lib.Ieee as Ieee;
-ghost use lib.Ieee.{Float, nan, inf, fin, binary32, binary64};
+ghost use lib.Ieee.{binary32, binary64};
 ghost use lib.Ieee.Nearest.{closest};
 ghost use Rattle.ieee.specs.Order.{larger, smaller, magnitude, finite, totalLess};
 ghost use Rattle.ieee.specs.Floor.{floor};
@@ -12,7 +11,7 @@ ghost use Rattle.ieee.specs.Convert.{convert};
 ghost use Rattle.ieee.specs.Sqrt.{sqrt, nearestRoot};
 ghost use Rattle.float.specs.Scaled.{IsScaled};
 
-// The larger of the two.
+// f32::max: the other one where one is a NaN, and a where the two are equal.
 pub fn max32(a: f32, b: f32) -> f32
     ensures { λ r. ⌜ r ≡ larger a b ⌝ }
 {
@@ -22,17 +21,17 @@ pub fn max32(a: f32, b: f32) -> f32
     if a < b { b } else { a }
 }
 
-// The larger of the two.
-pub fn max64(a: f64, b: f64) -> f64
-    ensures { λ r. ⌜ r ≡ larger a b ⌝ }
+// f64::max, as max32.
+pub fn max64(x: f64, y: f64) -> f64
+    ensures { λ r. ⌜ r ≡ larger x y ⌝ }
 {
-    if a != a {
-        return b;
+    if x != x {
+        return y;
     }
-    if a < b { b } else { a }
+    if x < y { y } else { x }
 }
 
-// The smaller of the two.
+// f32::min: the other one where one is a NaN, and a where the two are equal.
 pub fn min32(a: f32, b: f32) -> f32
     ensures { λ r. ⌜ r ≡ smaller a b ⌝ }
 {
@@ -42,7 +41,7 @@ pub fn min32(a: f32, b: f32) -> f32
     if b < a { b } else { a }
 }
 
-// Whether x is a number and no infinity.
+// f32::is_finite: x is between the infinities.
 pub fn is_finite32(x: f32) -> bool
     ensures { λ r. ⌜ r ≡ finite x ⌝ }
 {
@@ -50,7 +49,7 @@ pub fn is_finite32(x: f32) -> bool
     -top < x && x < top
 }
 
-// The size of x.
+// f64::abs: x with its sign clear.
 pub fn abs64(x: f64) -> f64
     ensures { λ r. ⌜ r ≡ magnitude x ⌝ }
 {
@@ -62,6 +61,44 @@ pub fn abs64(x: f64) -> f64
     } else {
         x
     }
+}
+
+// f32::total_cmp is Less: as `<`, -0 before +0, and a NaN, which counts as positive, after all others.
+pub fn total_less32(a: f32, b: f32) -> bool
+    ensures { λ r. ⌜ r ≡ totalLess a b ⌝ }
+{
+    if a != a {
+        return false;
+    }
+    if b != b {
+        return true;
+    }
+    if a < b {
+        return true;
+    }
+    if a == b {
+        return f32::to_bits(a) >= 0x8000_0000 && f32::to_bits(b) < 0x8000_0000;
+    }
+    false
+}
+
+// f64::total_cmp is Less, as total_less32.
+pub fn total_less64(x: f64, y: f64) -> bool
+    ensures { λ r. ⌜ r ≡ totalLess x y ⌝ }
+{
+    if x != x {
+        return false;
+    }
+    if y != y {
+        return true;
+    }
+    if x < y {
+        return true;
+    }
+    if x == y {
+        return f64::to_bits(x) >= 0x8000_0000_0000_0000 && f64::to_bits(y) < 0x8000_0000_0000_0000;
+    }
+    false
 }
 
 // 2 ^ d.
@@ -88,7 +125,8 @@ fn nearest(a: u64, p: u64) -> u64
     }
 }
 
-// The pattern of the f32 nearest to the f64 with the pattern a, which has its sign clear.
+// The pattern of the f32 nearest to the f64 with the pattern a, which has its sign clear: infinity,
+// a normal f32, a subnormal one, or zero, by a's exponent field.
 fn narrow_size(a: u64) -> u64
     requires { ⌜ a ≤ 0x7ff0_0000_0000_0000 ⌝ }
     ensures { λ r. ⌜ r ≡ Ieee.toBits binary32 (convert binary32 (Ieee.ofBits binary64 a)) ⌝ }
@@ -106,7 +144,7 @@ fn narrow_size(a: u64) -> u64
     }
 }
 
-// x as an f32, rounded once.
+// x as an f32, rounded to nearest with ties to even.
 pub fn to_f32(x: f64) -> f32
     ensures { λ r. ⌜ r ≡ convert binary32 x ⌝ }
 {
@@ -121,8 +159,37 @@ pub fn to_f32(x: f64) -> f32
     }
 }
 
-// With N = m * 4 ^ n / 2 ^ 54: the whole number nearest to N's square root. The root is worked
-// out a binary digit at a time.
+// f32::floor: the whole number next below x, by its 24 digits cut at p.
+pub fn floor32(x: f32) -> f32
+    ensures { λ r. ⌜ r ≡ floor binary32 x ⌝ }
+{
+    if x != x {
+        return x;
+    }
+    let b = f32::to_bits(x);
+    let a = b % 0x8000_0000;
+    let field = a / 0x80_0000;
+    if field >= 150 {
+        return x;
+    }
+    if a == 0 {
+        return x;
+    }
+    let digits = 0x80_0000 + a % 0x80_0000;
+    let p = if field >= 126 {
+        pow2((150 - field) as u64) as u32
+    } else {
+        0x100_0000
+    };
+    if b >= 0x8000_0000 {
+        -(((digits + (p - 1)) / p) as f32)
+    } else {
+        (digits / p) as f32
+    }
+}
+
+// With N = m * 4 ^ n / 2 ^ 54: the whole number nearest to N's square root. Each turn takes the next
+// two binary digits of N and works out one of the root, q; `over` is what is left over.
 fn root(m: u64, n: u64) -> u64
     requires { ⌜ (m < 2 ^ 54) × (n ≤ 53) × (m * 4 ^ n % 2 ^ 54 ≡ 0) ⌝ }
     ensures { λ r. ⌜ r ≡ nearestRoot (m * 4 ^ n / 2 ^ 54) ⌝ }
@@ -179,13 +246,13 @@ fn root24(m: u64, q: u64) -> u64
     root(m, 24)
 }
 
-// digits * 2 ^ e, of 2 ^ -1126.
+// The number digits * 2 ^ e / 2 ^ 1126.
 struct Parts {
     digits: u64,
     e: u64,
 }
 
-// The number with the pattern a, above zero and finite, with 53 digits.
+// The f64 with the pattern a, above zero and finite, with all of 53 digits.
 fn scaled(a: u64) -> Parts
     requires { ⌜ (0 < a) × (a < 0x7ff0_0000_0000_0000) ⌝ }
     ensures { λ r. ⌜ IsScaled a (r .digits) (r .e) ⌝ }
@@ -206,7 +273,8 @@ fn scaled(a: u64) -> Parts
     }
 }
 
-// The square root of x, rounded once.
+// f64::sqrt, rounded to nearest: the root of digits * 2 ^ e is that of the digits, doubled where e is
+// odd, times 2 ^ (e / 2).
 pub fn sqrt64(x: f64) -> f64
     ensures { λ r. ⌜ r ≡ sqrt binary64 x ⌝ }
 {
@@ -229,7 +297,7 @@ pub fn sqrt64(x: f64) -> f64
     f64::from_bits((h + 485) * 0x10_0000_0000_0000 + root(m, 53))
 }
 
-// The square root of x, rounded once.
+// f32::sqrt, as sqrt64 of x as an f64, with 24 digits.
 pub fn sqrt32(x: f32) -> f32
     ensures { λ r. ⌜ r ≡ sqrt binary32 x ⌝ }
 {
@@ -250,71 +318,4 @@ pub fn sqrt32(x: f32) -> f32
     let h = v.e / 2;
     let m = if v.e % 2 == 1 { v.digits * 2 } else { v.digits };
     f32::from_bits(((h - 411) * 0x80_0000 + root24(m, guess(b))) as u32)
-}
-
-// Whether a is below b in the order of all floats.
-pub fn total_less32(a: f32, b: f32) -> bool
-    ensures { λ r. ⌜ r ≡ totalLess a b ⌝ }
-{
-    if a != a {
-        return false;
-    }
-    if b != b {
-        return true;
-    }
-    if a < b {
-        return true;
-    }
-    if a == b {
-        return f32::to_bits(a) >= 0x8000_0000 && f32::to_bits(b) < 0x8000_0000;
-    }
-    false
-}
-
-// Whether a is below b in the order of all floats.
-pub fn total_less64(a: f64, b: f64) -> bool
-    ensures { λ r. ⌜ r ≡ totalLess a b ⌝ }
-{
-    if a != a {
-        return false;
-    }
-    if b != b {
-        return true;
-    }
-    if a < b {
-        return true;
-    }
-    if a == b {
-        return f64::to_bits(a) >= 0x8000_0000_0000_0000 && f64::to_bits(b) < 0x8000_0000_0000_0000;
-    }
-    false
-}
-
-// The whole number next below x.
-pub fn floor32(x: f32) -> f32
-    ensures { λ r. ⌜ r ≡ floor binary32 x ⌝ }
-{
-    if x != x {
-        return x;
-    }
-    let b = f32::to_bits(x);
-    let a = b % 0x8000_0000;
-    let field = a / 0x80_0000;
-    if field >= 150 {
-        return x;
-    }
-    if a == 0 {
-        return x;
-    }
-    let digits = 0x80_0000 + a % 0x80_0000;
-    let p = if field >= 126 {
-        pow2((150 - field) as u64) as u32
-    } else {
-        0x100_0000
-    };
-    if b >= 0x8000_0000 {
-        -(((digits + (p - 1)) / p) as f32)
-    } else {
-        (digits / p) as f32
-    }
 }

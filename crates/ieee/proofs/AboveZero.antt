@@ -2,11 +2,11 @@
 use mathlib.Core.Path.{_≡_, refl, sym, ap, _∙_, subst}
 use mathlib.Core.Bool.{Bool, true, false, not, _&&_, true≢false, false≢true}
 use mathlib.Core.Logic.{_⊎_, inl, inr}
-use Prim.Native.Nat.{ℕ, zero, suc, _+_, _*_, _%_, _≤_, _<_}
+use Prim.Native.Nat.{ℕ, zero, suc, _+_, _*_, _≤_, _<_}
 use native.Mathlib.Nat.{le-antisymm, mod-eq-of-lt, mul-pos, zero-lt-suc, zero-mul, mul-one, eq-zero-or-pos}
 use native.Mathlib.Omega.{arith}
 use lib.IntN.{ℤ}
-use lib.Dec.{T, ltb, eqb, ltb→lt, lt→ltb, eqb→eq}
+use lib.Dec.{T, eqb, ltb→lt, lt→ltb, eqb→eq}
 use lib.Ieee.{Float, nan, inf, fin, Format, binary64, top, up, down, ofBits, toBits, fits, isNan, ne, eq, lt, div}
 use lib.Ieee.Fits.{up-pos, and-l}
 use lib.Ieee.Bits.{ofBits-toBits}

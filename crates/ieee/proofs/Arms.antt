@@ -1,7 +1,7 @@
 -- The arms of max, min, abs, is_finite and total_less: each gives what the definition gives where its tests hold.
-use mathlib.Core.Path.{_≡_, refl, sym, ap, _∙_, subst}
-use mathlib.Core.Bool.{Bool, true, false, not, cond, _&&_, _||_, true≢false, false≢true}
-use Prim.Native.Nat.{ℕ, _≤_, _<_}
+use mathlib.Core.Path.{_≡_, refl, sym, _∙_, subst}
+use mathlib.Core.Bool.{true, false, not, true≢false, false≢true}
+use Prim.Native.Nat.{_≤_, _<_}
 use lib.Dec.{T, ltb, leb}
 use lib.Ieee.{Float, nan, inf, fin, Format, binary32, top, toBits, fits, isNan, ne, eq, lt, neg, div, ofBits}
 use borrow.Author.Tests.{lt-ltb, le-ltb, lt-leb, not-false, not-true}

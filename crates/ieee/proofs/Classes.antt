@@ -1,6 +1,6 @@
 -- `magnitude`, `negative` and `finite`: the size has no sign and differs from x by its sign alone, and x is finite where its size is below the infinity, which is Rust's is_finite.
 use mathlib.Core.Path.{_≡_, refl}
-use mathlib.Core.Bool.{Bool, true, false, not, true≢false, false≢true}
+use mathlib.Core.Bool.{true, false, not, true≢false, false≢true}
 use lib.Ieee.{Float, nan, inf, fin, neg, lt, isNan}
 use Rattle.ieee.specs.Order.{magnitude, negative, finite}
 

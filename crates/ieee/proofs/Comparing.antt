@@ -1,11 +1,11 @@
 -- Two finite floats of the sizes a / d and b / d compare as a and b do, with their signs (`lt-is`, `eq-is`).
-use mathlib.Core.Path.{_≡_, refl, sym, ap, _∙_, subst}
-use mathlib.Core.Logic.{_⊎_, inl, inr}
+use mathlib.Core.Path.{_≡_, refl, sym, ap, _∙_}
+use mathlib.Core.Logic.{inl, inr}
 use mathlib.Core.Bool.{Bool, true, false, _&&_, _||_, Bool·beq}
-use Prim.Native.Nat.{ℕ, zero, suc, _+_, _*_, _≤_, _<_}
-use native.Mathlib.Nat.{mul-assoc, mul-comm, mul-left-comm, mul-right-comm, mul-pos, mul-lt-mul-of-pos-right, mul-le-mul-right, eq-of-mul-eq-mul-right, add-mul, zero-mul}
+use Prim.Native.Nat.{ℕ, _+_, _*_, _<_}
+use native.Mathlib.Nat.{mul-assoc, mul-comm, mul-right-comm, mul-pos, mul-lt-mul-of-pos-right, mul-le-mul-right, eq-of-mul-eq-mul-right, add-mul, zero-mul}
 use native.Mathlib.Omega.{arith}
-use lib.Dec.{T, ltb, leb, eqb}
+use lib.Dec.{ltb, leb, eqb}
 use lib.IntN.{ℤ}
 use lib.Ieee.{Float, nan, inf, fin, up, down, below, level, lt, eq, le}
 use lib.Ieee.Fits.{down-pos}

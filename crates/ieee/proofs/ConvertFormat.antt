@@ -1,24 +1,23 @@
 -- `convert` is IEEE 754-2019's convertFormat (section 5.4.2): a finite number's exact value is rounded by roundTiesToEven (`convert-rounds`), and nothing else is what that asks (`convert-only`).
 -- So the value of the format next to it, with its sign, and an infinity from 2 ^ emax * (2 - 2 ^ -prec) on; a value that the format holds stays (`convert-same`), as zeros, infinities and NaN do.
 use mathlib.Core.Path.{_≡_, refl, sym, ap, _∙_, subst}
-use mathlib.Core.Logic.{_⊎_, inl, inr}
+use mathlib.Core.Logic.{inl, inr}
 use mathlib.Core.Bool.{Bool}
-use Prim.Native.Nat.{ℕ, zero, suc, _+_, _-_, _*_, _/_, _%_, _^_, _≤_, _<_, compare, Ordering, Ordering·lt, Ordering·eq, Ordering·gt}
-use native.Mathlib.Nat.{le-refl, le-trans, le-of-eq, not-le-of-lt, mul-assoc, mul-comm, mul-left-comm, mul-right-comm, mul-pos, mul-lt-mul-of-pos-right, lt-of-mul-lt-mul-right, div-mul-le-self, div-lt-iff-lt-mul, le-div-iff-mul-le, div-div-eq-div-mul, div-add-mod', eq-zero-or-pos}
+use Prim.Native.Nat.{ℕ, suc, _+_, _-_, _*_, _/_, _%_, _^_, _≤_, _<_, compare}
+use native.Mathlib.Nat.{le-trans, le-of-eq, not-le-of-lt, mul-assoc, mul-comm, mul-pos, div-mul-le-self, div-lt-iff-lt-mul, le-div-iff-mul-le, div-div-eq-div-mul, div-add-mod'}
 use native.Mathlib.Omega.{arith}
 use lib.Dec.{T}
 use lib.IntN.{ℤ, pos}
 use lib.Pow.{pow-add, pow-pos}
-use lib.Ieee.{Float, nan, inf, fin, Format, binary32, binary64, prec, emax, low, hid, up, down, size, round, fits}
+use lib.Ieee.{Float, nan, inf, fin, Format, prec, emax, low, hid, up, down, size, round, fits}
 use lib.Ieee.Fits.{down-pos, kept-lt, round-is, round-fits}
-use lib.Ieee.Digits.{size-reaches}
 use lib.Ieee.Exact.{HasValue, round-exact}
 use Rattle.ieee.specs.Convert.{convert}
-use Rattle.ieee.specs.Rounding.{fraction, AtLeast, AtMost, RoundTiesToEven}
+use Rattle.ieee.specs.Rounding.{fraction, RoundTiesToEven}
 use Rattle.ieee.proofs.Naturals.{trichotomy, compare-lt, compare-eq, compare-gt}
 use Rattle.ieee.proofs.Values.{finite-fin, rescale}
 use Rattle.ieee.proofs.Units.{Lead, leads}
-use Rattle.ieee.proofs.Grid.{Placed, on-grid, same-value, value-small}
+use Rattle.ieee.proofs.Grid.{on-grid, same-value, value-small}
 use Rattle.ieee.proofs.RoundsToEven.{Half, Cut, rounds, only}
 
 -- ---- how `round` cuts num / den
@@ -94,7 +93,7 @@ exact f s m e F =
     let p = on-grid f (fin s m e) F (finite-fin s m e) in
     let v : m * up e * 2 ^ low f ≡ p .size * down e = p .value .1 in
     let r : HasValue (round f s (m * up e) (down e)) s (m * up e) (down e) =
-      round-exact f s (m * up e) (down e) (p .grid .0) (p .grid .1) (down-pos e) (p .grid .2) (subst (λ (x : ℕ). x < 2 ^ (low f + suc (emax f))) (p .grid .3) (subst (λ (x : ℕ). p .size < x) (mul-comm (2 ^ suc (emax f)) (2 ^ low f) ∙ sym (pow-add 2 (low f) (suc (emax f)))) (value-small f (fin s m e) s (p .size) (2 ^ low f) (pow-pos (low f)) F (refl, v)))) (v ∙ ap (λ (x : ℕ). x * down e) (p .grid .3)) in
+    round-exact f s (m * up e) (down e) (p .grid .0) (p .grid .1) (down-pos e) (p .grid .2) (subst (λ (x : ℕ). x < 2 ^ (low f + suc (emax f))) (p .grid .3) (subst (λ (x : ℕ). p .size < x) (mul-comm (2 ^ suc (emax f)) (2 ^ low f) ∙ sym (pow-add 2 (low f) (suc (emax f)))) (value-small f (fin s m e) s (p .size) (2 ^ low f) (pow-pos (low f)) F (refl, v)))) (v ∙ ap (λ (x : ℕ). x * down e) (p .grid .3)) in
     same-value f (round f s (m * up e) (down e)) (fin s m e) s (p .size) (round-fits f s (m * up e) (down e)) F (rescale (round f s (m * up e) (down e)) s (m * up e) (down e) (p .size) (2 ^ low f) (down-pos e) (sym v) r) (refl, v)
 
 zero-fits : (f : Format) (s : Bool) → T (fits f (fin s 0 (pos 0)))

@@ -1,7 +1,7 @@
 -- `cut s num den`, a fraction cut to a whole number, downward or upward: it is the one whole number n with n ≤ num / den < n + 1, or n - 1 < num / den ≤ n (`Between`). So it depends on the fraction's
 -- size alone (`cut-same`).
 use mathlib.Core.Path.{_≡_, sym, ap, _∙_, subst}
-use mathlib.Core.Bool.{Bool, true, false, cond}
+use mathlib.Core.Bool.{Bool, true, false}
 use Prim.Native.Nat.{ℕ, suc, _+_, _-_, _*_, _/_, _%_, _≤_, _<_}
 use native.Mathlib.Nat.{le-trans, le-of-eq, le-of-suc-le-suc, le-antisymm, lt-of-le-of-lt, lt-of-lt-of-le, mul-one, mul-comm, mul-right-comm, add-mul, suc-mul, add-zero, mul-le-mul-left, mul-le-mul-right, mul-lt-mul-of-pos-right, le-of-mul-le-mul-right, lt-of-mul-lt-mul-right, div-mul-le-self, div-lt-iff-lt-mul, div-add-mod', mod-lt}
 use native.Mathlib.Omega.{arith}

@@ -1,12 +1,12 @@
 -- Of two numbers R / d and Y / d the first is as near to an exact size X as the second exactly where their middle, (R + Y) / (d * 2), is on the far side of X:
 -- X is at most the middle where R is below Y, and at least the middle where R is above Y (`Middle`).
 use mathlib.Core.Path.{_≡_, refl, sym, ap, _∙_, subst}
-use mathlib.Core.Logic.{_⊎_, inl, inr}
-use mathlib.Core.Bool.{Bool, true, false, not, Bool·beq, true≢false, false≢true}
-use Prim.Native.Nat.{ℕ, zero, suc, _+_, _-_, _*_, _/_, _%_, _^_, _≤_, _<_}
-use native.Mathlib.Nat.{le-trans, le-of-eq, le-of-lt, le-of-suc-le-suc, lt-of-not-le, not-le-of-lt, mul-assoc, mul-comm, mul-left-comm, mul-right-comm, mul-le-mul-right, le-of-mul-le-mul-right, add-mul, mul-pos, zero-mul, lt-of-mul-lt-mul-right}
+use mathlib.Core.Logic.{inl, inr}
+use mathlib.Core.Bool.{Bool, true, false, Bool·beq}
+use Prim.Native.Nat.{ℕ, suc, _+_, _-_, _*_, _≤_, _<_}
+use native.Mathlib.Nat.{le-of-eq, le-of-lt, le-of-suc-le-suc, lt-of-not-le, mul-assoc, mul-comm, mul-left-comm, mul-right-comm, mul-le-mul-right, le-of-mul-le-mul-right, add-mul, mul-pos, zero-mul, lt-of-mul-lt-mul-right}
 use native.Mathlib.Omega.{arith}
-use lib.Dec.{T, lit<}
+use lib.Dec.{lit<}
 use lib.IntN.{ℤ}
 use lib.Ieee.{Float, nan, inf, fin, up, down}
 use lib.Ieee.Fits.{down-pos}

@@ -1,12 +1,10 @@
 -- The exact sizes of specs/Rounding, a fraction or its square root, among the fractions: two fractions around a size are in order, it stays where it is at another denominator, and in parts of 1 / d it has
 -- a whole part (`part`).
-use mathlib.Core.Path.{_≡_, refl, sym, ap, _∙_, subst}
+use mathlib.Core.Path.{_≡_, refl, sym}
 use mathlib.Core.Logic.{_⊎_, inl, inr}
-use Prim.Native.Nat.{ℕ, zero, suc, _+_, _-_, _*_, _/_, _%_, _^_, _≤_, _<_}
-use native.Mathlib.Nat.{le-trans, le-of-eq, le-of-lt, eq-or-lt-of-le, le-of-suc-le-suc, lt-of-not-le, lt-irrefl, lt-of-lt-of-le, not-le-of-lt, mul-assoc, mul-comm, mul-left-comm, mul-right-comm, mul-le-mul, mul-le-mul-right, le-of-mul-le-mul-right, mul-pos, add-mul, zero-mul, le-div-iff-mul-le, div-lt-iff-lt-mul}
+use Prim.Native.Nat.{ℕ, suc, _*_, _/_, _≤_, _<_}
+use native.Mathlib.Nat.{le-trans, le-of-eq, le-of-lt, lt-of-not-le, not-le-of-lt, mul-assoc, mul-comm, mul-left-comm, mul-right-comm, mul-le-mul, mul-le-mul-right, le-of-mul-le-mul-right, mul-pos, le-div-iff-mul-le, div-lt-iff-lt-mul}
 use native.Mathlib.Omega.{arith}
-use lib.Dec.{T, leb, leb→le, nleb→lt}
-use mathlib.Core.Bool.{Bool, true, false, not}
 use Rattle.ieee.specs.Sqrt.{root}
 use Rattle.ieee.specs.Rounding.{Exact, fraction, rootOf, AtLeast, AtMost}
 use Rattle.ieee.proofs.Naturals.{le-or-lt, square-le}

@@ -2,19 +2,18 @@
 use mathlib.Core.Path.{_≡_, refl, sym, ap, _∙_, subst}
 use mathlib.Core.Logic.{_⊎_, inl, inr}
 use mathlib.Core.Bool.{Bool, true, false, not, cond}
-use Prim.Native.Nat.{ℕ, zero, suc, _+_, _-_, _*_, _/_, _%_, _^_, _≤_, _<_}
-use native.Mathlib.Nat.{le-trans, le-of-eq, le-of-lt, le-antisymm, le-of-suc-le-suc, lt-of-lt-of-le, mul-assoc, mul-right-comm, mul-one, mul-le-mul-left, mul-le-mul-right, le-of-mul-le-mul-right, div-lt-iff-lt-mul, suc-mul, zero-lt-suc, mod-eq-of-lt, eq-zero-or-pos, eq-or-lt-of-le, div-eq-of-lt, div-le-self, mul-pos, zero-mul, add-zero}
+use Prim.Native.Nat.{ℕ, suc, _+_, _-_, _*_, _/_, _%_, _^_, _≤_, _<_}
+use native.Mathlib.Nat.{le-trans, le-of-lt, lt-of-lt-of-le, mul-assoc, mul-one, zero-lt-suc, mod-eq-of-lt, eq-zero-or-pos, eq-or-lt-of-le, div-eq-of-lt, div-le-self, mul-pos, zero-mul, add-zero}
 use native.Mathlib.Omega.{arith}
 use lib.Dec.{T, lit<, lit≤, le→leb, ltb, ltb→lt, nltb→le}
 use lib.Arith.{digits-div}
-use lib.IntN.{ℤ, pos}
+use lib.IntN.{pos}
 use lib.Pow.{pow-add, pow-pos, pow-mono, shl-lt}
 use lib.Ieee.{Float, nan, inf, fin, Format, binary32, prec, emax, low, up, down, round, fits, neg, ofInt, ofBits, toBits, inFloat, ne, isNan}
 use lib.Ieee.Bits.{ofBits-toBits, toBits-lt}
 use lib.Ieee.Fits.{down-pos, round-fits}
 use lib.Ieee.Back.{whole-unique}
 use lib.Ieee.Exact.{HasValue, round-exact}
-use lib.Ieee.Nearest.{div-same}
 use Rattle.ieee.specs.Floor.{cut, floor}
 use Rattle.ieee.proofs.Tests.{nan-is}
 use Rattle.ieee.proofs.Values.{value-neg, rescale}

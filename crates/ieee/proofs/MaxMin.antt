@@ -1,16 +1,16 @@
 -- `larger` and `smaller` give one of their operands, not below (above) either, the other one beside a NaN, and the first of two that are equal: so which of -0 and +0 comes back is up to their order.
 -- Both pick the second operand only where a relation R says that it is past the first; R is `<` for `larger` and `>` for `smaller`.
-use mathlib.Core.Path.{_≡_, refl, sym, ap, _∙_, subst}
+use mathlib.Core.Path.{_≡_, refl, sym, ap, _∙_}
 use mathlib.Core.Logic.{_⊎_, inl, inr}
-use mathlib.Core.Bool.{Bool, true, false, cond, _&&_, _||_, Bool·beq, true≢false, false≢true}
+use mathlib.Core.Bool.{Bool, true, false, cond, _||_, Bool·beq, true≢false, false≢true}
 use Prim.Native.Nat.{ℕ, _+_, _*_}
 use native.Mathlib.Omega.{arith}
-use lib.Dec.{T, ltb, eqb, eqb→eq}
+use lib.Dec.{T, eqb, eqb→eq}
 use lib.IntN.{pos}
 use lib.Ieee.{Float, nan, inf, fin, up, down, below, level, lt, eq, isNan}
 use lib.Ieee.Fits.{and-l, and-r}
 use borrow.Author.Tests.{le-ltb}
-use Rattle.ieee.specs.Order.{larger, smaller, totalLess}
+use Rattle.ieee.specs.Order.{larger, smaller}
 use Rattle.ieee.proofs.Tests.{yes}
 use Rattle.ieee.proofs.TotalOrder.{transitive, irreflexive, as-less}
 

@@ -1,5 +1,5 @@
 -- `convert binary32` of an f64, as patterns: what to_f32 makes of the 53 digits and the exponent's field (`narrow-over`, `narrow-mid`, `narrow-low`, `narrow-none`), and of the sign.
-use mathlib.Core.Path.{_≡_, refl, sym, ap, _∙_, subst}
+use mathlib.Core.Path.{_≡_, refl, sym, ap, _∙_}
 use mathlib.Core.Logic.{_⊎_, inl, inr}
 use mathlib.Core.Bool.{Bool, true, false, not}
 use Prim.Native.Nat.{ℕ, suc, _+_, _-_, _*_, _/_, _%_, _^_, _≤_, _<_, min, compare}

@@ -1,9 +1,9 @@
 -- Square roots of whole numbers: `root n` is the whole part of n's root (`root-is`, `root-unique`), and the step of the loop that works one out.
-use mathlib.Core.Path.{_≡_, refl, sym, ap, _∙_, subst}
-use mathlib.Core.Logic.{_⊎_, inl, inr}
+use mathlib.Core.Path.{_≡_, sym, ap, _∙_, subst}
+use mathlib.Core.Logic.{inl, inr}
 use mathlib.Core.Bool.{Bool, true, false, not, cond}
-use Prim.Native.Nat.{ℕ, zero, suc, _+_, _-_, _*_, _/_, _%_, _^_, _≤_, _<_, compare}
-use native.Mathlib.Nat.{le-trans, lt-of-lt-of-le, lt-of-le-of-lt, lt-of-not-le, le-antisymm, le-of-suc-le-suc, not-le-of-lt, lt-irrefl, mul-le-mul, pow-suc, pow-le-pow-left, mul-one}
+use Prim.Native.Nat.{ℕ, zero, suc, _+_, _-_, _*_, _/_, _%_, _^_, _≤_, _<_}
+use native.Mathlib.Nat.{le-trans, lt-of-lt-of-le, lt-of-not-le, le-antisymm, le-of-suc-le-suc, lt-irrefl, mul-le-mul, pow-suc, pow-le-pow-left}
 use native.Mathlib.Numerals.{add-one}
 use native.Mathlib.Omega.{arith}
 use lib.Dec.{T, leb, leb→le, nleb→lt, lit≤, lit<}

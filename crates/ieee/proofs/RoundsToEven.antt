@@ -2,19 +2,18 @@
 -- with q * 2 ^ k + 2 ^ k / 2 (`Cut`, `rounds`). No other float is (`only`).
 use mathlib.Core.Path.{_≡_, refl, sym, ap, _∙_, subst}
 use mathlib.Core.Logic.{_⊎_, inl, inr}
-use mathlib.Core.Bool.{Bool, true, false, not, cond, Bool·beq, false≢true}
-use Prim.Native.Nat.{ℕ, zero, suc, _+_, _-_, _*_, _/_, _%_, _^_, _≤_, _<_, Ordering, Ordering·lt, Ordering·eq, Ordering·gt}
-use native.Mathlib.Nat.{le-refl, le-trans, le-of-eq, le-of-lt, le-of-suc-le-suc, le-antisymm, lt-of-lt-of-le, lt-of-le-of-lt, lt-of-not-le, not-le-of-lt, lt-irrefl, mul-assoc, mul-comm, mul-left-comm, mul-le-mul, mul-le-mul-left, mul-le-mul-right, le-of-mul-le-mul-right, mul-pos, zero-mul, eq-of-mul-eq-mul-right, eq-zero-or-pos, pow-succ'}
+use mathlib.Core.Bool.{Bool, true, false, cond, Bool·beq, false≢true}
+use Prim.Native.Nat.{ℕ, zero, suc, _+_, _-_, _*_, _%_, _^_, _≤_, _<_, Ordering, Ordering·lt, Ordering·eq, Ordering·gt}
+use native.Mathlib.Nat.{le-trans, le-of-eq, le-of-lt, le-of-suc-le-suc, le-antisymm, lt-of-lt-of-le, lt-of-le-of-lt, lt-of-not-le, not-le-of-lt, lt-irrefl, mul-assoc, mul-le-mul, mul-le-mul-left, mul-le-mul-right, le-of-mul-le-mul-right, mul-pos, zero-mul, eq-of-mul-eq-mul-right, eq-zero-or-pos, pow-succ'}
 use native.Mathlib.Omega.{arith}
-use lib.Dec.{T, ltb, ltb→lt, nltb→le, lit<, lit≤}
-use lib.IntN.{ℤ}
-use lib.Pow.{pow-add, pow-pos, pow-mono, pow-lt}
-use lib.Ieee.{Float, nan, inf, fin, Format, binary32, binary64, prec, emax, low, hid, ones, top, nearest, odd, units, fits, toBits}
-use lib.Ieee.Fits.{nearest-le, odd-fits, inf-fits}
+use lib.Dec.{T, lit<}
+use lib.Pow.{pow-pos, pow-mono}
+use lib.Ieee.{Float, nan, inf, fin, Format, binary32, binary64, prec, emax, low, hid, top, nearest, odd, units, fits, toBits}
+use lib.Ieee.Fits.{nearest-le}
 use lib.Ieee.Nearest.{nearest-ge}
 use lib.Ieee.Exact.{HasValue, units-val}
-use Rattle.ieee.specs.Order.{negative, finite}
-use Rattle.ieee.specs.Rounding.{Exact, AtLeast, AtMost, Near, AsNear, Overflows, RoundTiesToEven}
+use Rattle.ieee.specs.Order.{finite}
+use Rattle.ieee.specs.Rounding.{Exact, AtLeast, AtMost, AsNear, Overflows, RoundTiesToEven}
 use Rattle.ieee.proofs.Naturals.{trichotomy}
 use Rattle.ieee.proofs.Values.{value-finite, value-negative, value-unique, finite-fin}
 use Rattle.ieee.proofs.Units.{Lead, units-fits, units-over, units-small, units-negative}

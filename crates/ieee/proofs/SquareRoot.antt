@@ -1,20 +1,20 @@
 -- `sqrt` is IEEE 754-2019's squareRoot (section 5.4.1): the exact root of a number above zero is rounded by roundTiesToEven (`sqrt-rounds`), and nothing else is what that asks (`sqrt-only`).
 -- The root of a number of the format is finite (`sqrt-finite`). The root of -0 is -0, and below zero there is none.
 use mathlib.Core.Path.{_≡_, refl, sym, ap, _∙_, subst}
-use mathlib.Core.Logic.{_⊎_, inl, inr}
+use mathlib.Core.Logic.{inl, inr}
 use mathlib.Core.Bool.{Bool, true, false}
-use Prim.Native.Nat.{ℕ, zero, suc, _+_, _-_, _*_, _/_, _%_, _^_, _≤_, _<_, compare, Ordering, Ordering·lt, Ordering·eq, Ordering·gt}
-use native.Mathlib.Nat.{le-trans, le-of-eq, le-of-lt, le-of-suc-le-suc, lt-of-lt-of-le, lt-of-le-of-lt, lt-irrefl, not-le-of-lt, mul-assoc, mul-comm, mul-left-comm, mul-pos, mul-le-mul, mul-le-mul-right, mul-le-mul-left, lt-of-mul-lt-mul-right, le-of-mul-le-mul-right, div-lt-iff-lt-mul, le-div-iff-mul-le, eq-zero-or-pos, two-mul, pow-succ'}
+use Prim.Native.Nat.{ℕ, suc, _+_, _-_, _*_, _/_, _^_, _≤_, _<_, compare}
+use native.Mathlib.Nat.{le-trans, le-of-eq, le-of-suc-le-suc, lt-of-lt-of-le, lt-of-le-of-lt, not-le-of-lt, mul-assoc, mul-comm, mul-left-comm, mul-pos, mul-le-mul, mul-le-mul-right, mul-le-mul-left, lt-of-mul-lt-mul-right, le-of-mul-le-mul-right, div-lt-iff-lt-mul, le-div-iff-mul-le, pow-succ'}
 use native.Mathlib.Omega.{arith}
 use lib.Dec.{T, lit≤}
 use lib.IntN.{ℤ, pos}
 use lib.Pow.{pow-add, pow-pos, pow-mono}
-use lib.Ieee.{Float, nan, inf, fin, Format, binary32, binary64, prec, emax, low, hid, up, down, size, units, fits}
+use lib.Ieee.{Float, nan, inf, fin, Format, binary32, binary64, prec, emax, low, hid, up, down, size, fits}
 use lib.Ieee.Fits.{down-pos}
-use lib.Ieee.Digits.{size-reaches, size-lt}
+use lib.Ieee.Digits.{size-lt}
 use Rattle.ieee.specs.Order.{finite}
-use Rattle.ieee.specs.Sqrt.{root, halfway, roundRoot, sqrt}
-use Rattle.ieee.specs.Rounding.{rootOf, AtLeast, AtMost, Overflows, RoundTiesToEven}
+use Rattle.ieee.specs.Sqrt.{root, roundRoot, sqrt}
+use Rattle.ieee.specs.Rounding.{rootOf, RoundTiesToEven}
 use Rattle.ieee.proofs.Naturals.{trichotomy, square-lt, pow-double, compare-lt, compare-eq, compare-gt}
 use Rattle.ieee.proofs.Units.{Lead, leads}
 use Rattle.ieee.proofs.Roots.{root-is}

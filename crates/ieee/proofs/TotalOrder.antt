@@ -2,19 +2,17 @@
 -- With sizes at one denominator and none above B, each float has a rank, a number: `totalLess` compares the ranks (`less-is`).
 use mathlib.Core.Path.{_≡_, refl, sym, ap, _∙_, subst}
 use mathlib.Core.Logic.{_⊎_, inl, inr}
-use mathlib.Core.Bool.{Bool, true, false, not, cond, _&&_, _||_, Bool·beq, true≢false, false≢true}
-use Prim.Native.Nat.{ℕ, zero, suc, _+_, _-_, _*_, _^_, _≤_, _<_}
-use native.Mathlib.Nat.{mul-assoc, mul-comm, mul-left-comm, mul-right-comm, mul-pos, eq-of-mul-eq-mul-right}
+use mathlib.Core.Bool.{Bool, true, false, not, _&&_, _||_}
+use Prim.Native.Nat.{ℕ, _+_, _-_, _*_, _^_, _≤_, _<_}
+use native.Mathlib.Nat.{mul-assoc, mul-comm, mul-left-comm, mul-pos}
 use native.Mathlib.Omega.{arith}
 use lib.Dec.{T, ltb, eqb}
-use lib.IntN.{ℤ, pos}
-use lib.Pow.{pow-pos}
+use lib.IntN.{pos}
 use lib.Ieee.{Float, nan, inf, fin, Format, low, up, down, below, level, lt, eq, isNan, fits}
-use lib.Ieee.Fits.{down-pos}
 use lib.Ieee.Positive.{num, den, den-pos}
 use lib.Ieee.Exact.{HasValue}
-use borrow.Author.Tests.{lt-ltb, le-ltb, ltb-true, ltb-false, eq-eqb, ne-eqb}
-use Rattle.ieee.specs.Order.{negative, finite, totalLess}
+use borrow.Author.Tests.{lt-ltb, le-ltb, ltb-true, eq-eqb}
+use Rattle.ieee.specs.Order.{finite, totalLess}
 use Rattle.ieee.proofs.Naturals.{le-or-lt, trichotomy}
 use Rattle.ieee.proofs.Tests.{left-plain, right-plain}
 use Rattle.ieee.proofs.Comparing.{lt-is, eq-is}

@@ -1,19 +1,18 @@
 -- `floor` is IEEE 754-2019's roundToIntegralTowardNegative (section 5.9): of a finite number of the format it is the greatest whole number that is at most that, with the same sign
 -- (`floor-rounds`). Zeros, infinities and NaN stay.
 use mathlib.Core.Path.{_≡_, refl, sym, ap, _∙_, subst}
-use mathlib.Core.Bool.{Bool, true, false, cond, _&&_}
-use Prim.Native.Nat.{ℕ, zero, suc, _+_, _-_, _*_, _/_, _%_, _^_, _≤_, _<_}
-use native.Mathlib.Nat.{le-trans, le-of-eq, le-of-lt, le-of-suc-le-suc, lt-of-lt-of-le, lt-of-le-of-lt, mul-one, mul-pos, div-le-self, div-one, div-mul-le-self, div-lt-iff-lt-mul, div-add-mod', mod-lt, lt-of-mul-lt-mul-right, mul-le-mul-right, mul-le-mul-left, le-of-mul-le-mul-right, suc-mul, add-zero, zero-mul}
+use mathlib.Core.Bool.{Bool, true, false}
+use Prim.Native.Nat.{ℕ, suc, _+_, _*_, _^_, _≤_, _<_}
+use native.Mathlib.Nat.{le-trans, le-of-eq, le-of-lt, le-of-suc-le-suc, lt-of-lt-of-le, lt-of-le-of-lt, mul-one, lt-of-mul-lt-mul-right, mul-le-mul-right, zero-mul}
 use native.Mathlib.Omega.{arith}
-use lib.Dec.{T, leb, eqb, le→leb, leb→le, eqb→eq}
+use lib.Dec.{T, eqb, le→leb, leb→le, eqb→eq}
 use lib.IntN.{ℤ, pos, negsuc}
 use lib.Pow.{pow-pos}
-use lib.Ieee.{Float, nan, inf, fin, Format, binary32, binary64, up, down, round, le, fits}
+use lib.Ieee.{Float, nan, inf, fin, Format, binary32, binary64, up, down, round, fits}
 use lib.Ieee.Fits.{down-pos, round-fits, and-l, and-r, and-i, eq→eqb}
 use lib.Ieee.Back.{round-whole}
 use lib.Ieee.Exact.{HasValue}
-use Rattle.ieee.specs.Order.{negative}
-use Rattle.ieee.specs.Floor.{cut, floor, Whole, RoundTowardNegative}
+use Rattle.ieee.specs.Floor.{cut, floor, RoundTowardNegative}
 use Rattle.ieee.proofs.Cuts.{Between, cut-between, cut-le}
 use Rattle.ieee.proofs.Comparing.{upTo, le-is}
 use Rattle.ieee.proofs.Values.{value-negative, rescale}
@@ -82,8 +81,8 @@ module _ (f : Format) (s : Bool) where
           whole = (s, n, v);
           below = subst T (sym (le-is r x s s (n * down e) (m * up e) (down e) (down-pos e) (widened r s n v) (refl, refl))) (at-most (m * up e) (down e) n (down-pos e) s b);
           greatest = λ y w h.
-            subst T (sym (le-is y r (w .0) s (w .1 * down e) (n * down e) (down e) (down-pos e) (widened y (w .0) (w .1) (w .2)) (widened r s n v)))
-            (above-none (m * up e) (down e) n (down-pos e) s (w .0) (w .1) b (subst T (le-is y x (w .0) s (w .1 * down e) (m * up e) (down e) (down-pos e) (widened y (w .0) (w .1) (w .2)) (refl, refl)) h));
+              subst T (sym (le-is y r (w .0) s (w .1 * down e) (n * down e) (down e) (down-pos e) (widened y (w .0) (w .1) (w .2)) (widened r s n v)))
+              (above-none (m * up e) (down e) n (down-pos e) s (w .0) (w .1) b (subst T (le-is y x (w .0) s (w .1 * down e) (m * up e) (down e) (down-pos e) (widened y (w .0) (w .1) (w .2)) (refl, refl)) h));
           sign = value-negative r s n 1 v ∙ sym (value-negative x s (m * up e) (down e) (refl, refl));
         }
 

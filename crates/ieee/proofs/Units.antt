@@ -1,5 +1,5 @@
 -- `units f s q k`, q * 2 ^ k of the format's smallest values, which is how `round` and `roundRoot` end: its sign, that the format holds it, where it is an infinity, and what `-x` makes of it.
-use mathlib.Core.Path.{_≡_, refl, sym, ap, _∙_, subst}
+use mathlib.Core.Path.{_≡_, refl, sym, subst}
 use mathlib.Core.Logic.{_⊎_, inl, inr}
 use mathlib.Core.Bool.{Bool, true, false, not, cond}
 use Prim.Native.Nat.{ℕ, zero, suc, _+_, _-_, _*_, _^_, _≤_, _<_}

@@ -1,8 +1,8 @@
 -- `HasValue x s a c`: the float x is finite, has the sign s and the size a / c. What that says of x, and of one size as two fractions.
-use mathlib.Core.Path.{_≡_, refl, sym, ap, _∙_}
-use mathlib.Core.Bool.{Bool, true, false, not}
+use mathlib.Core.Path.{_≡_, sym, ap, _∙_}
+use mathlib.Core.Bool.{Bool, not}
 use Prim.Native.Nat.{ℕ, _*_, _<_}
-use native.Mathlib.Nat.{mul-assoc, mul-right-comm, eq-of-mul-eq-mul-right}
+use native.Mathlib.Nat.{mul-right-comm, eq-of-mul-eq-mul-right}
 use lib.Dec.{T}
 use lib.IntN.{ℤ}
 use lib.Ieee.{Float, nan, inf, fin, up, down, neg}

@@ -1,7 +1,7 @@
 -- An f32 above zero as an f64: of its 53 digits the lower 6 at least are 0, and its exponent is in the narrower range (`Widened`). That is what sqrt32 needs of them.
-use mathlib.Core.Path.{_≡_, refl, sym, ap, _∙_, subst}
+use mathlib.Core.Path.{_≡_, sym, ap, _∙_, subst}
 use mathlib.Core.Logic.{_⊎_, inl, inr}
-use mathlib.Core.Bool.{Bool, false}
+use mathlib.Core.Bool.{false}
 use Prim.Native.Nat.{ℕ, _+_, _-_, _*_, _^_, _≤_, _<_}
 use native.Mathlib.Nat.{le-trans, le-of-eq, lt-of-lt-of-le, lt-of-le-of-lt, mul-assoc, mul-le-mul-right, eq-of-mul-eq-mul-right, eq-zero-or-pos, mul-pos, zero-mul, one-mul, lt-irrefl}
 use native.Mathlib.Omega.{arith}
@@ -51,7 +51,7 @@ widened x digits e F lo hi v =
     let sig = p .grid .0 in
     let c = p .grid .1 + 977 in
     let u : p .size * 2 ^ 977 ≡ digits * 2 ^ e =
-      eq-of-mul-eq-mul-right (2 ^ 149) (pow-pos 149) (p .size * 2 ^ 977) (digits * 2 ^ e) (mul-assoc (p .size) (2 ^ 977) (2 ^ 149) ∙ value-cross x (p .sign) false (p .size) (digits * 2 ^ e) (2 ^ 149) (2 ^ 1126) (p .value) v) in
+    eq-of-mul-eq-mul-right (2 ^ 149) (pow-pos 149) (p .size * 2 ^ 977) (digits * 2 ^ e) (mul-assoc (p .size) (2 ^ 977) (2 ^ 149) ∙ value-cross x (p .sign) false (p .size) (digits * 2 ^ e) (2 ^ 149) (2 ^ 1126) (p .value) v) in
     let is : digits * 2 ^ e ≡ sig * 2 ^ c = sym u ∙ ap (λ (y : ℕ). y * 2 ^ 977) (p .grid .3) ∙ mul-assoc sig (2 ^ p .grid .1) (2 ^ 977) ∙ ap (λ (y : ℕ). sig * y) (sym (pow-add 2 (p .grid .1) 977)) in
     let g = gap digits e sig c is lo hi (p .grid .2) in
     let n = near digits e sig c is lo hi (p .grid .2) in

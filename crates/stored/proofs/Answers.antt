@@ -1,10 +1,11 @@
--- An answer stands in the list of answers at its letter's place. Assumes nothing.
+-- An answer stands in the list of answers at its letter's place, and a line agrees where its last column holds it. Assumes nothing.
 use mathlib.Core.Path.{_≡_, refl, sym, ap, _∙_}
 use mathlib.Core.Bool.{Bool, true, false, _&&_}
 use mathlib.Core.List.{List}
 use Prim.Native.Nat.{ℕ, zero, suc, _+_, _%_, _≤_, _<_}
 use native.Mathlib.Omega.{arith}
 use lib.Dec.{leb, eqb}
+use lib.Ieee.{Float}
 use lib.ListN.{getD, List·getD-eq-default}
 use borrow.Author.Tests.{le-leb, lt-leb}
 use Rattle.stored.specs.Floats.{answers, answerOf}
@@ -21,6 +22,14 @@ missed (suc n) {k} m = go (missed n (m .0)) (m .1)
   where
     go : n ≤ k → (k ≡ n → ⊥) → suc n ≤ k
     go h e = omega arith
+
+-- the pattern g of what a helper f answers, from what is known of each step
+module _ {A : Type 0} (g : A → ℕ) where
+  pub of-one : (f : Float → A) {v : ℕ} {r : A} {x x₀ : Float} → v ≡ g r → r ≡ f x → x ≡ x₀ → v ≡ g (f x₀)
+  of-one f p q e = p ∙ ap g (q ∙ ap f e)
+
+  pub of-two : (f : Float → Float → A) {v : ℕ} {r : A} {x y x₀ y₀ : Float} → v ≡ g r → r ≡ f x y → x ≡ x₀ → y ≡ y₀ → v ≡ g (f x₀ y₀)
+  of-two f {x₀ = x₀} {y₀ = y₀} p q d e = p ∙ ap g (q ∙ rw (d, e))
 
 module _ (letter a b : ℕ) where
   pub placed : {v : ℕ} (k : ℕ) → letter % 32 ≡ k → v ≡ getD (answers a b) k 0 → v ≡ answerOf letter a b

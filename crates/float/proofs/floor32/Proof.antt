@@ -1,12 +1,11 @@
 -- The digits, cut at p, are the number cut at 1; zeros and what is from 2 ^ 23 on stay.
-use borrow.Author.Needs.{needs}
-use mathlib.Core.Path.{_≡_, sym, ap, _∙_, subst}
+use mathlib.Core.Path.{sym, _∙_, subst}
 use mathlib.Core.Logic.{⊎-elim, inl, inr}
 use mathlib.Core.Bool.{not, true, false}
-use Prim.Native.Nat.{ℕ, _+_, _-_, _*_, _/_, _%_, _^_, _≤_, _<_}
+use Prim.Native.Nat.{ℕ, _+_, _-_, _/_, _%_, _^_, _≤_, _<_}
 use native.Mathlib.Omega.{arith}
 use lib.Dec.{T}
-use lib.Pow.{pow-pos, pow-mono}
+use lib.Pow.{pow-mono}
 use lib.Ieee.{Float, binary32, fits, isNan, toBits}
 use Rattle.ieee.proofs.Tests.{no-nan}
 use Rattle.ieee.proofs.FloorPatterns.{floor-nan, stays-large, stays-zero, floor-part, sized-above, sized-below, size-in, up-in, down-in, up-is, down-is, Part, part-in}
@@ -35,16 +34,16 @@ returns-3 : tie.Need-returns-3
 returns-3 c = stays-zero (x (c .before .before)) (held (c .before .before)) (plain (c .before .before)) (c .if3 .taken)
 
 add-digits : tie.Need-add-digits
-add-digits c = search needs
+add-digits c = omega arith
 
 sub-pow2 : tie.Need-sub-pow2
-sub-pow2 c = search needs
+sub-pow2 c = omega arith
 
 cast-pow2 : tie.Need-cast-pow2
-cast-pow2 c = search needs
+cast-pow2 c = omega arith
 
 pow2-requires : tie.Need-pow2-requires
-pow2-requires c κs = search needs
+pow2-requires c κs = omega arith
 
 cast-p : tie.Need-cast-p
 cast-p c = omega (arith, c .pow2 .ensures, pow-mono {i = 150 - toBits binary32 (x (c .before .before .before .before)) % 2 ^ 31 / 2 ^ 23} {j = 24} (omega arith))

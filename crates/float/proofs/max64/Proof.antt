@@ -4,13 +4,13 @@ use Rattle.float.proofs.max64.Statement.{statement}
 use Rattle.float.proofs.max64.Tie as tie
 
 returns : tie.Need-returns
-returns c = max-nan (c .before .args .a) (c .before .args .b) (c .if1 .taken)
+returns c = max-nan (c .before .args .x) (c .before .args .y) (c .if1 .taken)
 
 returns-2 : tie.Need-returns-2
-returns-2 c = max-second (c .before .before .args .a) (c .before .before .args .b) (c .if2 .taken)
+returns-2 c = max-second (c .before .before .args .x) (c .before .before .args .y) (c .if2 .taken)
 
 returns-3 : tie.Need-returns-3
-returns-3 c = max-first (c .before .before .args .a) (c .before .before .args .b) (c .before .if1 .left) (c .if2 .left)
+returns-3 c = max-first (c .before .before .args .x) (c .before .before .args .y) (c .before .if1 .left) (c .if2 .left)
 
 pub max64-spec : {M : Type 1} → statement M
 max64-spec = tie.close (tie.spec returns returns-2 returns-3)

@@ -1,22 +1,21 @@
 -- What the field says of the size: infinity, a normal f32, a subnormal one, or nothing.
 use Rattle.ieee.proofs.Narrowing.{narrow-over, narrow-mid, narrow-low, narrow-none, digits-closest}
 use lib.Ieee.Nearest.{closest}
-use lib.Pow.{pow-pos, pow-lt, pow-mono}
+use lib.Pow.{pow-pos, pow-mono}
 use native.Mathlib.Omega.{arith}
-use Prim.Native.Nat.{ℕ, _+_, _-_, _*_, _/_, _^_, _<_, _%_, _≤_}
-use mathlib.Core.Path.{_≡_, sym, ap, _∙_}
-use borrow.Author.Needs.{needs}
+use Prim.Native.Nat.{ℕ, _+_, _-_, _*_, _/_, _^_, _%_}
+use mathlib.Core.Path.{sym, ap, _∙_}
 use Rattle.float.proofs.narrow_size.Statement.{statement}
 use Rattle.float.proofs.narrow_size.Tie as tie
 
 add-digits : tie.Need-add-digits
-add-digits c = search needs
+add-digits c = omega arith
 
 mul-result : tie.Need-mul-result
-mul-result c = search needs
+mul-result c = omega arith
 
 nearest-requires : tie.Need-nearest-requires
-nearest-requires c κs = search needs
+nearest-requires c κs = omega arith
 
 add-result : tie.Need-add-result
 add-result c =
@@ -24,10 +23,10 @@ add-result c =
     omega (arith, digits-closest a (c .before .before .before .pre) .1, c .nearest .ensures)
 
 sub-pow2 : tie.Need-sub-pow2
-sub-pow2 c = search needs
+sub-pow2 c = omega arith
 
 pow2-requires : tie.Need-pow2-requires
-pow2-requires c κs = search needs
+pow2-requires c κs = omega arith
 
 nearest-requires-2 : tie.Need-nearest-requires-2
 nearest-requires-2 c κs =

@@ -3,15 +3,14 @@ use Rattle.ieee.proofs.Naturals.{closest-lt, closest-eq, closest-gt}
 use mathlib.Core.Path.{sym}
 use native.Mathlib.Nat.{mod-lt, div-le-self}
 use native.Mathlib.Omega.{arith}
-use borrow.Author.Needs.{needs}
 use Rattle.float.proofs.nearest.Statement.{statement}
 use Rattle.float.proofs.nearest.Tie as tie
 
 div-q : tie.Need-div-q
-div-q c = search needs
+div-q c = omega arith
 
 rem-r : tie.Need-rem-r
-rem-r c = search needs
+rem-r c = omega arith
 
 mul-r : tie.Need-mul-r
 mul-r c = omega (arith, mod-lt (c .args .a) (c .pre .0))

@@ -4,7 +4,7 @@ use Prim.Native.Nat.{_-_, _^_, _<_}
 use native.Mathlib.Nat.{lt-of-lt-of-le}
 use lib.Pow.{pow-mono}
 use mathlib.Core.Logic.{⊎-elim}
-use Rattle.ieee.proofs.Roots.{Digits, first, one, nought, finish}
+use Rattle.ieee.proofs.Roots.{Digits, one, nought, finish}
 use Rattle.float.proofs.root.Statement.{statement}
 use Rattle.float.proofs.root.Tie as tie
 

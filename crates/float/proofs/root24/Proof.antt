@@ -6,7 +6,6 @@ use mathlib.Core.Path.{_≡_, sym, ap, _∙_}
 use Rattle.ieee.specs.Sqrt.{nearestRoot}
 use borrow.Author.Tests.{leb-true}
 use Rattle.ieee.proofs.Roots.{tested}
-use borrow.Author.Needs.{needs}
 use Rattle.float.proofs.root24.Statement.{statement}
 use Rattle.float.proofs.root24.Tie as tie
 
@@ -17,7 +16,7 @@ sub-if1 : tie.Need-sub-if1
 sub-if1 c = omega (arith, mul-le-mul (c .pre .2) (c .pre .2))
 
 add-if2 : tie.Need-add-if2
-add-if2 c = search needs
+add-if2 c = omega arith
 
 returns : tie.Need-returns
 returns c =
@@ -27,10 +26,10 @@ returns c =
     sym (ap nearestRoot e ∙ tested (s .args .q) (m / 64) (omega arith) (c .before .if1 .taken) (leb-true (m / 64) (s .args .q * s .args .q + s .args .q) (c .if2 .taken)))
 
 root-requires : tie.Need-root-requires
-root-requires c κs = search needs
+root-requires c κs = omega arith
 
 returns-2 : tie.Need-returns-2
-returns-2 c = search needs
+returns-2 c = omega arith
 
 pub root24-spec : {M : Type 1} → statement M
 root24-spec = tie.close (tie.spec mul-s sub-if1 add-if2 returns root-requires returns-2)

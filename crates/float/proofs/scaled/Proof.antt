@@ -2,10 +2,9 @@
 use Rattle.float.proofs.Scaling.{lz-in, low-hi, scaled-low, scaled-high}
 use Rattle.float.specs.Scaled.{IsScaled}
 use lib.Count.{leadingZeros}
-use Prim.Native.Nat.{ℕ, _*_, _<_, _≤_, _-_, _/_, _%_, _^_}
-use mathlib.Core.Path.{_≡_, sym, ap, subst}
+use Prim.Native.Nat.{ℕ, _*_, _<_, _≤_, _-_, _%_, _^_}
+use mathlib.Core.Path.{sym, subst}
 use native.Mathlib.Omega.{arith}
-use borrow.Author.Needs.{needs}
 use Rattle.float.proofs.scaled.Statement.{statement}
 use Rattle.float.proofs.scaled.Tie as tie
 
@@ -30,10 +29,10 @@ sub-t10 : tie.Need-sub-t10
 sub-t10 c = room (c .before) .1
 
 add-t11 : tie.Need-add-t11
-add-t11 c = search needs
+add-t11 c = omega arith
 
 add-t12 : tie.Need-add-t12
-add-t12 c = search needs
+add-t12 c = omega arith
 
 returns : tie.Need-returns
 returns c =

@@ -1,14 +1,13 @@
 -- The tests leave an x above zero (`AboveZero`), and the pattern of its root is made of the digits and of half the exponent (`SqrtPatterns`). An f32 as an f64 has few digits (`Widened`).
-use borrow.Author.Needs.{needs}
 use mathlib.Core.Path.{_≡_, sym, ap, _∙_, subst}
 use mathlib.Core.Logic.{⊎-elim}
 use mathlib.Core.Bool.{not, false}
 use Prim.Native.Nat.{ℕ, _+_, _-_, _*_, _/_, _%_, _^_, _≤_, _<_}
-use lib.Dec.{T, lit≤}
+use lib.Dec.{T}
 use native.Mathlib.Omega.{arith}
 use lib.Ieee.Fits.{fits-widens, and-i}
 use Rattle.ieee.proofs.Widened.{Widened, widened}
-use lib.Ieee.{Float, binary32, binary64, fits, isNan, toBits, ofBits}
+use lib.Ieee.{Float, binary32, binary64, fits, isNan, toBits}
 use lib.Ieee.Bits.{ofBits-toBits}
 use lib.Ieee.Exact.{HasValue}
 use Rattle.float.specs.Scaled.{IsScaled}
@@ -55,7 +54,7 @@ scaled-requires : tie.Need-scaled-requires
 scaled-requires c κs = (above-some (x (c .before .before)) (wide (c .before .before)) (above (c .before .before)), c .if4 .left)
 
 mul-m : tie.Need-mul-m
-mul-m c = search needs
+mul-m c = omega arith
 
 -- ---- after the branch: m is digits * 2 ^ (e % 2)
 abbrev start : tie.Joined5 → tie.Else3
@@ -86,7 +85,7 @@ mul-result : tie.Need-mul-result
 mul-result c = omega (arith, brief c .below)
 
 guess-requires : tie.Need-guess-requires
-guess-requires c κs = search needs
+guess-requires c κs = omega arith
 
 root24-requires : tie.Need-root24-requires
 root24-requires c κs =

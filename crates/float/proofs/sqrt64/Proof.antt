@@ -1,12 +1,12 @@
 -- The tests leave an x above zero (`AboveZero`), and the pattern of its root is made of the digits and of half the exponent (`SqrtPatterns`).
-use borrow.Author.Needs.{needs}
+use native.Mathlib.Omega.{arith}
 use mathlib.Core.Path.{_≡_, sym, ap, _∙_, subst}
 use mathlib.Core.Logic.{⊎-elim}
-use mathlib.Core.Bool.{not, false}
+use mathlib.Core.Bool.{false}
 use Prim.Native.Nat.{ℕ, _+_, _*_, _/_, _%_, _^_, _≤_, _<_}
 use native.Mathlib.Nat.{le-refl}
 use lib.Dec.{T}
-use lib.Ieee.{Float, binary64, fits, isNan, toBits, ofBits}
+use lib.Ieee.{Float, binary64, fits, toBits}
 use lib.Ieee.Bits.{ofBits-toBits}
 use lib.Ieee.Exact.{HasValue}
 use Rattle.float.specs.Scaled.{IsScaled}
@@ -47,13 +47,13 @@ scaled-requires : tie.Need-scaled-requires
 scaled-requires c κs = (above-some (x (c .before)) (held (c .before)) (above (c .before)), c .if4 .left)
 
 mul-m : tie.Need-mul-m
-mul-m c = search needs
+mul-m c = omega arith
 
 add-result : tie.Need-add-result
-add-result c = search needs
+add-result c = omega arith
 
 mul-result : tie.Need-mul-result
-mul-result c = search needs
+mul-result c = omega arith
 
 -- ---- after the branch: m is digits * 2 ^ (e % 2)
 abbrev digits : tie.Joined5 → ℕ

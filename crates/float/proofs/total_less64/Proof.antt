@@ -9,10 +9,10 @@ use Rattle.float.proofs.total_less64.Statement.{statement}
 use Rattle.float.proofs.total_less64.Tie as tie
 
 abbrev a : tie.Start → Float
-a c = c .args .a
+a c = c .args .x
 
 abbrev b : tie.Start → Float
-b c = c .args .b
+b c = c .args .y
 
 -- what owning a float tells: the format holds it
 held-a : (c : tie.Start) → T (fits binary64 (a c))
