@@ -86,10 +86,10 @@ statsOf p = record { sum = component p 0 0; gate = gate p; op = component p 3 3 
 
 -- ---- where the pixels stand
 
--- in four rows of four
-abbrev pub pixel : List (List ℤ) → Window
-pixel m x y = getD (getD m y []) x (pos 0)
+-- held in four rows of four
+abbrev pub ofRows : List (List ℤ) → Window
+ofRows m x y = getD (getD m y []) x (pos 0)
 
--- in an image whose rows are w apart, from the place `at` on
+-- standing in an image whose rows are w apart, from the place `at` on
 abbrev pub pixelsAt : List ℕ → ℕ → ℕ → Window
 pixelsAt img w at x y = pos (getD img (at + y * w + x) 0)
