@@ -2,10 +2,10 @@
 //! compare --store TOPIC                                     writes the topic's stored answers into crates/stored_TOPIC
 //! compare --speed TOPIC                                     times the topic's calls beside the original's
 //!
-//! Without --seconds and --count each kind of call is run on as many inputs as its topic sets for the gate. --count sets that
-//! number. --seconds runs smaller turns, each with a seed of its own, until the time is over. The first difference ends the
-//! run with status 1: it is made smaller while it still differs, and printed as a call, with floats as hexadecimal patterns. At the gate's size the stored answers are
-//! held to what --store would write.
+//! Without --seconds and --count each kind of call is run on as many inputs as its topic sets for the gate, and the stored answers
+//! are held to what --store would write. --count sets that number. --seconds runs smaller turns, each with inputs of its own, until
+//! the time is over. The first difference ends the run with status 1: it is made smaller while it still differs, and printed as a
+//! call, with floats as hexadecimal patterns.
 
 mod images;
 mod random;

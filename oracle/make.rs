@@ -113,7 +113,10 @@ fn main() {
     imageview.write(out, "imageview.rs");
 
     let mut refine = Module::read(src, "refine/mod.rs");
-    refine.cut("#[derive(Clone, Copy, Debug, PartialEq)]\n#[non_exhaustive]\npub struct PositionCovariance", "impl core::ops::Add for PositionCovariance");
+    refine.cut(
+        "#[derive(Clone, Copy, Debug, PartialEq)]\n#[non_exhaustive]\npub struct PositionCovariance",
+        "impl core::ops::Add for PositionCovariance",
+    );
     refine.swap(2, "pub(crate) ", "pub ");
     refine.write(out, "refine.rs");
 }

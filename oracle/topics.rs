@@ -4,8 +4,10 @@
 use crate::{images::Image, random, speed::beside, value::Value, Run, Stored, Topic};
 
 mod floats;
+mod grid;
 mod known;
 mod patterns;
+mod sample;
 mod window;
 
-pub const ALL: &[Topic] = &[known::TOPIC, floats::TOPIC, patterns::TOPIC, window::TOPIC];
+pub const ALL: &[Topic] = &[known::TOPIC, floats::TOPIC, window::TOPIC, grid::TOPIC, sample::TOPIC, patterns::TOPIC];

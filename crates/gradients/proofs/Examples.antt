@@ -9,16 +9,22 @@ use Rattle.gradients.specs.Gram.{plusZero, along, total}
 -- 1, 2, 3, 4, 5, 2 ^ 30 and -2 ^ 30
 abbrev one : Float
 one = ofBits binary32 0x3f80_0000
+
 abbrev two : Float
 two = ofBits binary32 0x4000_0000
+
 abbrev three : Float
 three = ofBits binary32 0x4040_0000
+
 abbrev four : Float
 four = ofBits binary32 0x4080_0000
+
 abbrev five : Float
 five = ofBits binary32 0x40a0_0000
+
 abbrev big : Float
 big = ofBits binary32 0x4e80_0000
+
 abbrev minus : Float
 minus = ofBits binary32 0xce80_0000
 

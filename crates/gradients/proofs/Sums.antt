@@ -36,7 +36,8 @@ module _ (a b : List Float) where
         zeroth = along-more 4 0 plusZero k (k * 4) (f .zeroth) (omega arith) e0;
         first = along-more 4 1 plusZero k (k * 4 + 1) (f .first) refl e1;
         second = along-more 4 2 plusZero k (k * 4 + 2) (f .second) refl e2;
-        third = along-more 4 3 plusZero k (k * 4 + 3) (f .third) refl e3 }
+        third = along-more 4 3 plusZero k (k * 4 + 3) (f .third) refl e3;
+      }
 
   pub fours-end : {n m : ℕ} {p0 p1 p2 p3 : Float} → FourSums a b n p0 p1 p2 p3 → n ≤ m → m ≤ n → FourSums a b m p0 p1 p2 p3
   fours-end {n} {m} {p0} {p1} {p2} {p3} f l g = subst (λ (j : ℕ). FourSums a b j p0 p1 p2 p3) (le-antisymm l g) f

@@ -84,7 +84,10 @@ impl PixelGradients {
     {
         let number = state_number(origin, side);
         if number != 0 {
-            return Handed { number, state: self };
+            return Handed {
+                number,
+                state: self,
+            };
         }
         let zeros = [0.0; 1024];
         self.origin = origin;
@@ -105,7 +108,10 @@ impl PixelGradients {
         let side = self.side;
         let number = state_number(origin, side);
         if number != 0 {
-            return Handed { number, state: self };
+            return Handed {
+                number,
+                state: self,
+            };
         }
         if !(float::is_finite32(v[0]) & float::is_finite32(v[1])) {
             return Handed {

@@ -1,4 +1,4 @@
--- What IEEE 754-2019 asks of a rounded result: section 4.3.1, roundTiesToEven. An operation gives the value of the format that is nearest to its exact result.
+-- What IEEE 754-2019 asks of a rounded result: section 4.3.1, roundTiesToEven. The operation gives the value of the format that is nearest to its exact result.
 use Prim.Native.Nat.{ℕ, suc, _+_, _-_, _*_, _%_, _^_, _≤_, _<_}
 use mathlib.Core.Path.{_≡_}
 use mathlib.Core.Bool.{Bool, true, false, Bool·beq}
@@ -11,12 +11,12 @@ pub data Exact : Type 0 where
   fraction : ℕ → ℕ → Exact
   rootOf : ℕ → ℕ → Exact
 
--- n / d is at most the exact size
+-- the exact size is at least n / d
 abbrev pub AtLeast : Exact → ℕ → ℕ → Type 0
 AtLeast (fraction num den) n d = n * den ≤ num * d
 AtLeast (rootOf num den) n d = n * n * den ≤ num * (d * d)
 
--- n / d is at least the exact size
+-- the exact size is at most n / d
 abbrev pub AtMost : Exact → ℕ → ℕ → Type 0
 AtMost (fraction num den) n d = num * d ≤ n * den
 AtMost (rootOf num den) n d = num * (d * d) ≤ n * n * den
@@ -32,7 +32,7 @@ Near s X nan t d = ⊥
 Near s X (inf u) t d = ⊥
 Near s X (fin u m e) t d = Within (Bool·beq s u) X (m * up e * d) (t * down e) (down e * d)
 
--- r is as near to the exact result as y is, or nearer: it is as near as any fraction says of y.
+-- r is no farther from the exact result than y is: what bounds y's distance bounds r's.
 abbrev pub AsNear : Bool → Exact → Float → Float → Type 0
 AsNear s X r y = (t d : ℕ) → 0 < d → Near s X y t d → Near s X r t d
 
@@ -50,5 +50,5 @@ pub record RoundTiesToEven (f : Format) (s : Bool) (X : Exact) (r : Float) : Typ
   pub under : (Overflows f X → ⊥) → T (finite r)
   -- none is nearer
   pub nearest : T (finite r) → (y : Float) → T (fits f y) → AsNear s X r y
-  -- if another is equally near, r is the one whose last digit is even
+  -- if another is equally near, r is the one whose last digit is even: the pattern's last digit is the significand's
   pub even : T (finite r) → (y : Float) → T (fits f y) → T (finite y) → (y ≡ r → ⊥) → AsNear s X y r → toBits f r % 2 ≡ 0

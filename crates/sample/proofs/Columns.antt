@@ -149,6 +149,9 @@ joined-long : (rows : ℕ → List ℤ) (t : ℕ) → ((i : ℕ) → length (row
 joined-long rows t e j zero = omega arith
 joined-long rows t e j (suc n) = omega (arith, length-append (rows j) (joined rows (suc j) n), e j, joined-long rows t e (suc j) n)
 
+pub columns-count : (fs : List WindowStats) → length (columns fs) ≡ columnCount * length fs
+columns-count fs = joined-long (λ c. map (field c) fs) (length fs) (λ c. length-map fs (field c)) 0 columnCount
+
 -- no figures
 none : WindowStats
 none = record { sum = pos 0; gate = pos 0; op = pos 0 }

@@ -65,7 +65,7 @@ some : (c : tie.Joined4) → 0 < a c
 some c = omega (arith, c .before .if3 .left)
 
 sub-result : tie.Need-sub-result
-sub-result c = in-part (c .before .before) .0
+sub-result c = omega (arith, in-part (c .before .before))
 
 add-result : tie.Need-add-result
 add-result c = omega (arith, in-part (c .before .before))

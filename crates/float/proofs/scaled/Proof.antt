@@ -15,7 +15,7 @@ cast-up : tie.Need-cast-up
 cast-up c = omega (arith, room c)
 
 sub-up : tie.Need-sub-up
-sub-up c = room c .0
+sub-up c = omega (arith, room c)
 
 pow2-requires : tie.Need-pow2-requires
 pow2-requires c κs = omega (arith, room c)
@@ -26,7 +26,7 @@ mul-t9 c =
     omega (arith, subst (λ (p : ℕ). s .args .a % 2 ^ 52 * p < 2 ^ 53) (sym (c .pow2 .ensures)) (low-hi (s .args .a) (s .pre .1) (c .before .if1 .taken) (s .pre .0)))
 
 sub-t10 : tie.Need-sub-t10
-sub-t10 c = room (c .before) .1
+sub-t10 c = omega (arith, room (c .before))
 
 add-t11 : tie.Need-add-t11
 add-t11 c = omega arith

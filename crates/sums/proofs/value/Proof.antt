@@ -1,14 +1,10 @@
-use mathlib.Core.Path.{refl}
+-- `value` meets its contract, by the test. Assumes nothing.
 use Rattle.sums.proofs.value.Statement.{statement}
 use Rattle.sums.proofs.value.Tie as tie
-use Rattle.sums.proofs.value.Reads as reads
-use Rattle.sums.proofs.value.Lts as lts
 
--- src/lib.rt:94:1
 returns : tie.Need-returns
 returns c = rw (c .if1 .taken)
 
--- src/lib.rt:94:1
 returns-2 : tie.Need-returns-2
 returns-2 c =
     rw (c .if1 .left)

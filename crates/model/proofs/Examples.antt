@@ -1,0 +1,82 @@
+-- Worked cases. Floats are given by their f32 patterns. Assumes nothing.
+use mathlib.Core.Path.{_≡_, refl}
+use mathlib.Core.Bool.{true, false}
+use mathlib.Core.List.{List, [], _∷_}
+use Prim.Native.Nat.{ℕ}
+use lib.Ieee
+use lib.Ieee.{Float, nan, inf, binary32, ofBits}
+use Rattle.ieee.specs.Order.{finite}
+use Rattle.refine.specs.Covariance.{covariance}
+use Rattle.model.specs.declared.Width.the-variants.{Known, Unknown}
+use Rattle.model.specs.Arith.{plusZero, one}
+use Rattle.model.specs.Ranges.{within, upTo}
+use Rattle.model.specs.Knots.{knotsNumber, place, column, atOf}
+use Rattle.model.specs.Systematic.{systematic, shrunk, about}
+use Rattle.model.specs.Model.{modelNumber}
+use Rattle.model.proofs.Laws.{table}
+
+abbrev pub float : ℕ → Float
+float n = ofBits binary32 n
+
+-- knots (1, 0.5, 0) and (2, 0.25, 1), whatever stands past them: width 1.5 gives 0.375 and 0.5
+pub knots-row : (l g r : List Float)
+    → atOf (table 2 plusZero (float 0x3f80_0000 ∷ float 0x4000_0000 ∷ l) (float 0x3f00_0000 ∷ float 0x3e80_0000 ∷ g) (plusZero ∷ float 0x3f80_0000 ∷ r)) (Known (float 0x3fc0_0000))
+    ≡ record { number = 0; gain = float 0x3ec0_0000; residual = float 0x3f00_0000 }
+unfolding atOf knotsNumber place column within upTo finite ofBits Ieee.lt Ieee.le Ieee.eq Ieee.add Ieee.sub Ieee.mul Ieee.div
+knots-row l g r = refl
+
+-- width 1 at the second of the knots (0, 0.005, 0) and (1, 0.03, 0) misses that knot's own gain by rounding
+pub inner-knot : (l g r : List Float)
+    → atOf (table 2 plusZero (plusZero ∷ one ∷ l) (float 0x3ba3_d70a ∷ float 0x3cf5_c28f ∷ g) (plusZero ∷ plusZero ∷ r)) (Known one)
+    ≡ record { number = 0; gain = float 0x3cf5_c28e; residual = plusZero }
+unfolding atOf knotsNumber place column within upTo finite ofBits Ieee.lt Ieee.le Ieee.eq Ieee.add Ieee.sub Ieee.mul Ieee.div
+inner-knot l g r = refl
+
+-- ---- ranges: the limits are in them, the next floats are not, and minus zero is 0
+
+pub limit-in : within 1000 (float 0x447a_0000) ≡ true
+unfolding within ofBits
+limit-in = refl
+
+pub next-out : within 1000 (float 0x447a_0001) ≡ false
+unfolding within ofBits
+next-out = refl
+
+pub minus-zero-in : upTo 1000 (float 0x8000_0000) ≡ true
+unfolding upTo ofBits
+minus-zero-in = refl
+
+pub below-zero-out : upTo 1000 (float 0x8000_0001) ≡ false
+unfolding upTo ofBits
+below-zero-out = refl
+
+-- ---- refusals of knots
+
+module _ (f : Float) (l g r : List Float) where
+  pub no-knot : knotsNumber (table 0 f l g r) ≡ 14
+  unfolding knotsNumber
+  no-knot = refl
+
+  pub seventeen : knotsNumber (table 17 f l g r) ≡ 14
+  unfolding knotsNumber
+  seventeen = refl
+
+  -- a NaN width among two is 14, also where a number is out of its range, and a single one is 12
+  pub nan-of-two : knotsNumber (table 2 f (nan ∷ one ∷ l) g r) ≡ 14
+  unfolding knotsNumber Ieee.lt
+  nan-of-two = refl
+
+  pub nan-alone : knotsNumber (table 1 f (nan ∷ l) g r) ≡ 12
+  unfolding knotsNumber within
+  nan-alone = refl
+
+  -- an infinite width rises, and is out of its range
+  pub infinite-second : knotsNumber (table 2 f (one ∷ inf false ∷ l) g r) ≡ 12
+  unfolding knotsNumber Ieee.lt within
+  infinite-second = refl
+
+-- ---- 13 within the ranges: one knot (1, 1e-20, 0), floor 0, no noise, offset (1, 0), no width, grid 1. The gain's square is a subnormal number, and its quotient an infinity.
+pub not-finite : (l g r : List Float)
+    → modelNumber (table 1 plusZero (one ∷ l) (float 0x1e3c_e508 ∷ g) (plusZero ∷ r)) (covariance plusZero plusZero plusZero) (one ∷ plusZero ∷ []) Unknown one ≡ 13
+unfolding modelNumber atOf knotsNumber place column systematic shrunk about within upTo finite ofBits Ieee.lt Ieee.le Ieee.eq Ieee.add Ieee.sub Ieee.mul Ieee.div
+not-finite l g r = refl

@@ -1,0 +1,125 @@
+-- Which number a call gets, from the tests on the way: one law for each way out. Assumes nothing.
+use mathlib.Core.Path.{_≡_, refl, sym, ap, _∙_}
+use mathlib.Core.Bool.{Bool, true, false, cond, _&&_}
+use mathlib.Core.List.{List}
+use Prim.Native.Nat.{ℕ, _-_, _≤_, _<_}
+use native.Mathlib.Omega.{arith}
+use lib.Dec.{eqb, ltb, leb}
+use lib.Ieee.{Float}
+use borrow.Author.Tests.{lt-ltb, le-leb, lt-leb, ltb-true, leb-true, eqb-true}
+use Rattle.refine.specs.Covariance.{allFinite}
+use Rattle.refine.specs.declared.PositionCovariance.{PositionCovariance}
+use Rattle.refine.proofs.Refusing.{and, and-left, and-right, stands, follows}
+use Rattle.model.specs.declared.SystematicModel.{SystematicModel}
+use Rattle.model.specs.declared.At.{At}
+use Rattle.model.specs.declared.Width.{Width}
+use Rattle.model.specs.declared.Place.{Place}
+use Rattle.model.specs.Knots.{every, risesAt, rising, ranged, knotsNumber, place, column, noKnots, atOf}
+use Rattle.model.specs.Model as Model
+use Rattle.model.specs.Model.{systematicAt, modelNumber, plain, refusal, modelOf}
+
+-- ---- the knots
+
+module _ (s : SystematicModel) where
+  -- by the two tests, in their order
+  by : Bool → Bool → ℕ
+  by a b = cond a (cond b 0 12) 14
+
+  number-is : (a b : Bool) → rising (s .widths) (s .count) ≡ a → ranged s ≡ b → by a b ≡ knotsNumber s
+  unfolding knotsNumber by
+  number-is a b f g = ap (λ (z : Bool). by z b) (sym f) ∙ ap (λ (z : Bool). by (rising (s .widths) (s .count)) z) (sym g)
+
+  pub none : s .count ≡ 0 → 14 ≡ knotsNumber s
+  unfolding by
+  none e = number-is false (ranged s) (ap (rising (s .widths)) e) refl
+
+  pub too-many : 16 < s .count → 14 ≡ knotsNumber s
+  unfolding by
+  too-many h =
+      number-is false (ranged s)
+      (ap (λ (z : Bool). z && every (risesAt (s .widths)) (s .count - 1)) (and (lt-ltb 0 (s .count) (omega arith)) (lt-leb (s .count) 16 h))) refl
+
+  module _ (p : (s .count ≡ 0) → ⊥) (q : s .count ≤ 16) where
+    counted : rising (s .widths) (s .count) ≡ every (risesAt (s .widths)) (s .count - 1)
+    counted = ap (λ (z : Bool). z && every (risesAt (s .widths)) (s .count - 1)) (and (lt-ltb 0 (s .count) (omega arith)) (le-leb (s .count) 16 q))
+
+    pub not-rising : every (risesAt (s .widths)) (s .count - 1) ≡ false → 14 ≡ knotsNumber s
+    unfolding by
+    not-rising h = number-is false (ranged s) (counted ∙ h) refl
+
+    pub out-of-range : every (risesAt (s .widths)) (s .count - 1) ≡ true → ranged s ≡ false → 12 ≡ knotsNumber s
+    unfolding by
+    out-of-range h g = number-is true false (counted ∙ h) g
+
+    pub taken : every (risesAt (s .widths)) (s .count - 1) ≡ true → ranged s ≡ true → 0 ≡ knotsNumber s
+    unfolding by
+    taken h g = number-is true true (counted ∙ h) g
+
+  -- a table that nothing refuses has one to sixteen knots
+  by-count : (a b : Bool) → by a b ≡ 0 → a ≡ true
+  unfolding by
+  by-count true b h = refl
+  by-count false b h = absurd (omega arith)
+
+  pub knots : 0 ≡ knotsNumber s → (0 < s .count) × (s .count ≤ 16)
+  unfolding knotsNumber by
+  knots e =
+      let r = by-count (rising (s .widths) (s .count)) (ranged s) (sym e) in
+      let c = and-left (ltb 0 (s .count) && leb (s .count) 16) (every (risesAt (s .widths)) (s .count - 1)) r in
+      (ltb-true 0 (s .count) (and-left (ltb 0 (s .count)) (leb (s .count) 16) c), leb-true (s .count) 16 (and-right (ltb 0 (s .count)) (leb (s .count) 16) c))
+
+  -- ---- at
+
+  module _ (w : Width) where
+    pub at-refused : (n : ℕ) → (n ≡ 0 → ⊥) → n ≡ knotsNumber s → noKnots n ≡ atOf s w
+    unfolding atOf
+    at-refused n h e = stands noKnots _ n h e
+
+    pub at-found : 0 ≡ knotsNumber s → {p : Place} {a b : Float} → p ≡ place (s .widths) (s .count) w → a ≡ column (s .gains) p → b ≡ column (s .residuals) p
+        → record { number = 0; gain = a; residual = b } ≡ atOf s w
+    unfolding atOf
+    at-found z {p} {a} {b} e f g = same (f ∙ ap (column (s .gains)) e) (g ∙ ap (column (s .residuals)) e) ∙ follows noKnots _ z
+      where
+        same : {x y x′ y′ : Float} → x ≡ x′ → y ≡ y′ → _≡_ {A = At} (record { number = 0; gain = x; residual = y }) (record { number = 0; gain = x′; residual = y′ })
+        same f g = λ i. record { number = 0; gain = f i; residual = g i }
+
+    pub at-number : atOf s w .number ≡ knotsNumber s
+    unfolding atOf
+    at-number = pick (knotsNumber s) (eqb (knotsNumber s) 0) _ (eqb-true (knotsNumber s) 0) refl
+      where
+        pick : (n : ℕ) (b : Bool) (a : At) → (b ≡ true → n ≡ 0) → a .number ≡ 0 → (cond b a (noKnots n)) .number ≡ n
+        pick n true a h e = e ∙ sym (h refl)
+        pick n false a h e = refl
+
+-- ---- the model
+
+module _ (s : SystematicModel) (c : PositionCovariance) (u : List Float) (w : Width) (grid : Float) where
+  pub model-knots : (n : ℕ) → (n ≡ 0 → ⊥) → n ≡ knotsNumber s → refusal n ≡ modelOf s c u w grid
+  unfolding modelOf modelNumber
+  model-knots n h e = stands refusal _ n h (stands (λ m. m) _ n h e)
+
+  module _ (e : 0 ≡ knotsNumber s) where
+    -- by the tests after those of the knots, in their order
+    then : Bool → Bool → ℕ
+    then a b = cond a (cond b 0 13) 12
+
+    then-is : (a b : Bool) → Model.ranged c u grid ≡ a → allFinite (systematicAt s u w grid) ≡ b → then a b ≡ modelNumber s c u w grid
+    unfolding modelNumber then
+    then-is a b f g =
+        ap (λ (z : Bool). then z b) (sym f) ∙ ap (λ (z : Bool). then (Model.ranged c u grid) z) (sym g)
+        ∙ follows (λ m. m) (then (Model.ranged c u grid) (allFinite (systematicAt s u w grid))) e
+
+    pub model-12 : Model.ranged c u grid ≡ false → refusal 12 ≡ modelOf s c u w grid
+    unfolding modelOf then
+    model-12 f = stands refusal _ 12 (λ q. omega arith) (then-is false (allFinite (systematicAt s u w grid)) f refl)
+
+    module _ (f : Model.ranged c u grid ≡ true) {d : PositionCovariance} (g : d ≡ systematicAt s u w grid) where
+      pub model-13 : allFinite d ≡ false → refusal 13 ≡ modelOf s c u w grid
+      unfolding modelOf then
+      model-13 h = stands refusal _ 13 (λ q. omega arith) (then-is true false f (ap allFinite (sym g) ∙ h))
+
+      pub model-0 : allFinite d ≡ true → record { number = 0; model = plain c d } ≡ modelOf s c u w grid
+      unfolding modelOf then
+      model-0 h =
+          ap (λ (d : PositionCovariance). record { number = 0; model = plain c d }) g
+          ∙ follows refusal _ (then-is true true f (ap allFinite (sym g) ∙ h))
