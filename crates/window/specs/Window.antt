@@ -16,6 +16,7 @@ pub record Pixel (z : ℤ) : Type 0 where
   pub is : z ≡ pos byte
   pub low : byte ≤ 255
 
+-- a window of pixels
 abbrev pub Pixels : Window → Type 0
 Pixels p = (x y : ℕ) → x < 4 → y < 4 → Pixel (p x y)
 
@@ -61,6 +62,7 @@ weighted (t ∷ ts) c = pos (t .weight) *ℤ sq (c (t .i) (t .j)) +ℤ weighted 
 abbrev pub term : ℕ → ℕ → ℕ → Term
 term w i j = record { weight = w; i = i; j = j }
 
+-- the gate's: with 5, with 25 and with 1
 abbrev pub gateTerms : List Term
 gateTerms =
     term 5 1 2
@@ -81,6 +83,7 @@ gate p = weighted gateTerms (component p)
 abbrev pub gateMost : ℕ
 gateMost = 104040000
 
+-- pixel sum, gate and operator output
 unfoldable pub statsOf : Window → WindowStats
 statsOf p = record { sum = component p 0 0; gate = gate p; op = component p 3 3 }
 
