@@ -1,11 +1,11 @@
 //! A window's pixel sum, gate and operator output beside the original's `window`, and on all windows of 0 and 255 beside its
 //! `window_stats`.
 
-use super::{random::Random, Run, Topic};
+use super::{beside, random::Random, Run, Topic};
 use original::noise;
 use std::iter::repeat_with;
 
-pub const TOPIC: Topic = Topic { name: "window", gate: true, compare, store: None, speed: None };
+pub const TOPIC: Topic = Topic { name: "window", gate: true, compare, store: None, speed: Some(speed) };
 
 unsafe extern "C" {
     fn vuzgari_compare_window_sum(img: *const u8, len: usize, w: usize, at: usize) -> i32;
@@ -26,18 +26,22 @@ fn compare(run: &mut Run) {
     });
 }
 
-/// A window somewhere in an image of up to 12 by 7: width, x, y and the pixels, each made from the image's level.
+/// Width, x, y and the pixels of an image of up to 12 by 7 with a window somewhere in it.
+type Placed = (usize, usize, usize, Vec<u8>);
+
+/// Each pixel is made from the image's level.
+fn placed(random: &mut Random, pixel: fn(&mut Random, u8) -> u8) -> Placed {
+    let (w, h) = (4 + random.below(9) as usize, 4 + random.below(4) as usize);
+    let (x, y) = (random.below(w as u64 - 3) as usize, random.below(h as u64 - 3) as usize);
+    let level = random.bits() as u8;
+    (w, x, y, repeat_with(|| pixel(random, level)).take(w * h).collect())
+}
+
 fn seeded(run: &mut Run, what: &str, pixel: fn(&mut Random, u8) -> u8) {
     let mut random = run.random(what);
-    let inputs = repeat_with(|| {
-        let (w, h) = (4 + random.below(9) as usize, 4 + random.below(4) as usize);
-        let (x, y) = (random.below(w as u64 - 3) as usize, random.below(h as u64 - 3) as usize);
-        let level = random.bits() as u8;
-        (w, x, y, repeat_with(|| pixel(&mut random, level)).take(w * h).collect::<Vec<u8>>())
-    });
     run.same(
         what,
-        inputs.take(run.size(GATE) as usize),
+        repeat_with(|| placed(&mut random, pixel)).take(run.size(GATE) as usize),
         |(w, x, y, img)| figures(img, *w, y * w + x),
         |(w, x, y, img)| noise::window(&img[y * w..], *w, *x),
     );
@@ -59,4 +63,16 @@ fn figures(img: &[u8], w: usize, at: usize) -> [i32; 3] {
             vuzgari_compare_window_op(img, len, w, at),
         ]
     }
+}
+
+/// The gate alone, from the call on; the original measures all three figures at once as well.
+fn speed() {
+    let mut random = Random::new(1);
+    let inputs: Vec<Placed> = repeat_with(|| placed(&mut random, |random, _| random.bits() as u8)).take(4096).collect();
+    beside(
+        "gate of a window",
+        &inputs,
+        |(w, x, y, img)| unsafe { vuzgari_compare_window_gate(img.as_ptr(), img.len(), *w, y * w + x) },
+        |(w, x, y, img)| noise::window(&img[y * w..], *w, *x)[1],
+    );
 }

@@ -12,7 +12,7 @@ use Rattle.laws.specs.Lists.{Each, Each²}
 use Rattle.laws.proofs.Choice.{cond-both}
 use Rattle.laws.proofs.Ring.{Ex, v, k, _⊕_, _⊖_, _⊗_, eval, ring, same}
 use Rattle.laws.proofs.Machine.{each²-at, bnd, under, held, held-of, held-small}
-use Rattle.window.specs.Window.{Pixel, Pixels, component, gateTerms, gate, statsOf, pixel}
+use Rattle.window.specs.Window.{Pixel, Pixels, component, gateTerms, gate, statsOf, ofRows}
 use Rattle.window.specs.Passes.{Small, poly4Of, poly4Column, transposed, poly4Down, cross, middle, weighOf}
 use Rattle.window.specs.declared.WindowStats.{WindowStats}
 use Rattle.window.proofs.Places.{_and_, below4²}
@@ -29,7 +29,7 @@ pub pixels-small : (m : List (List ℤ)) → Each² Pixel m → Each² (Small 40
 pixels-small [] e = tt
 pixels-small (l ∷ m) e = (small-row l (e .0), pixels-small m (e .1))
 
-pub in-rows : (m : List (List ℤ)) → Each² Pixel m → Pixels (pixel m)
+pub in-rows : (m : List (List ℤ)) → Each² Pixel m → Pixels (ofRows m)
 in-rows m e x y p q = each²-at Pixel (record { byte = 0; is = refl; low = lit≤ tt }) m e y x
 
 -- the four polynomials of four values
@@ -54,12 +54,12 @@ small-column a b c d ha hb hc hd = one 0 tt and one 1 tt and one 2 tt and one 3 
     one : (i : ℕ) → T (leb (bnd β (e i)) 4080) → Small 4080 (eval ρ (e i))
     one i t = record { small = under ρ β (ha and hb and hc and hd and tt) (e i) 4080 t }
 
-pub passed-small : (m : List (List ℤ)) → Pixels (pixel m) → Each² (Small 4080) (transposed (poly4Down m))
+pub passed-small : (m : List (List ℤ)) → Pixels (ofRows m) → Each² (Small 4080) (transposed (poly4Down m))
 passed-small m e = col 0 (lit< tt) and col 1 (lit< tt) and col 2 (lit< tt) and col 3 (lit< tt) and tt
   where
     col : (x : ℕ) → x < 4 → Each (Small 4080) (poly4Column m x)
     col x h =
-        small-column (pixel m x 0) (pixel m x 1) (pixel m x 2) (pixel m x 3) (pixel-abs (e x 0 h (lit< tt)))
+        small-column (ofRows m x 0) (ofRows m x 1) (ofRows m x 2) (ofRows m x 3) (pixel-abs (e x 0 h (lit< tt)))
         (pixel-abs (e x 1 h (lit< tt))) (pixel-abs (e x 2 h (lit< tt))) (pixel-abs (e x 3 h (lit< tt)))
 
 -- ---- the passes
@@ -76,16 +76,16 @@ passes m = poly4Down (transposed (poly4Down m))
 
 -- row i, place j
 abbrev pub of : List (List ℤ) → ℕ → ℕ → ℤ
-of c i j = held (pixel c j i)
+of c i j = held (ofRows c j i)
 
 module _ (m : List (List ℤ)) where
-  made : (i j : ℕ) → T (same (passedE i j) (componentE at i j)) → eval (numbers (pixel m)) (passedE i j) ≡ component (pixel m) i j
-  made i j t = ring (numbers (pixel m)) (passedE i j) (componentE at i j) t
+  made : (i j : ℕ) → T (same (passedE i j) (componentE at i j)) → eval (numbers (ofRows m)) (passedE i j) ≡ component (ofRows m) i j
+  made i j t = ring (numbers (ofRows m)) (passedE i j) (componentE at i j) t
 
   -- row i, place j of what the passes make is component (i, j), for all sixteen
-  pub passes-components : (i j : ℕ) → i < 4 → j < 4 → pixel (passes m) j i ≡ component (pixel m) i j
+  pub passes-components : (i j : ℕ) → i < 4 → j < 4 → ofRows (passes m) j i ≡ component (ofRows m) i j
   passes-components =
-      below4² (λ i j. pixel (passes m) j i ≡ component (pixel m) i j)
+      below4² (λ i j. ofRows (passes m) j i ≡ component (ofRows m) i j)
       (made 0 0 tt) (made 0 1 tt) (made 0 2 tt) (made 0 3 tt) (made 1 0 tt) (made 1 1 tt) (made 1 2 tt) (made 1 3 tt)
       (made 2 0 tt) (made 2 1 tt) (made 2 2 tt) (made 2 3 tt) (made 3 0 tt) (made 3 1 tt) (made 3 2 tt) (made 3 3 tt)
 
@@ -104,24 +104,24 @@ figures : {a b c a′ b′ c′ : ℤ} → a ≡ a′ → b ≡ b′ → c ≡ c
 figures p q r = rw (p, q, r)
 
 -- c holds what the passes make of the pixels m
-module _ (m c : List (List ℤ)) (e : Pixels (pixel m)) (r : c ≡ passes m) where
+module _ (m c : List (List ℤ)) (e : Pixels (ofRows m)) (r : c ≡ passes m) where
   abbrev q : ℕ → ℕ → ℤ
-  q = component (pixel m)
+  q = component (ofRows m)
 
   most-fits : (i j : ℕ) → most i j ≤ 8160
   most-fits i j = cond-both (λ (n : ℕ). n ≤ 8160) (eqb (i % 2) 1 && eqb (j % 2) 1) 8160 4080 (lit≤ tt) (lit≤ tt)
 
   of-is : (i j : ℕ) → i < 4 → j < 4 → of c i j ≡ q i j
   of-is i j s t =
-      ap held (ap (λ (l : List (List ℤ)). pixel l j i) r ∙ passes-components m i j s t)
-      ∙ held-small (q i j) 8160 (le-trans (component-within (pixel m) e i j s t) (most-fits i j)) tt
+      ap held (ap (λ (l : List (List ℤ)). ofRows l j i) r ∙ passes-components m i j s t)
+      ∙ held-small (q i j) 8160 (le-trans (component-within (ofRows m) e i j s t) (most-fits i j)) tt
 
   pub of-small : (i j n : ℕ) → T (ltb i 4) → T (ltb j 4) → T (leb (most i j) n) → Small n (of c i j)
   of-small i j n s t b =
       record {
         small =
             subst (λ (z : ℤ). natAbs z ≤ n) (sym (of-is i j (lit< s) (lit< t)))
-            (le-trans (component-within (pixel m) e i j (lit< s) (lit< t)) (lit≤ b));
+            (le-trans (component-within (ofRows m) e i j (lit< s) (lit< t)) (lit≤ b));
       }
 
   abbrev weighed : ℤ
@@ -130,7 +130,7 @@ module _ (m c : List (List ℤ)) (e : Pixels (pixel m)) (r : c ≡ passes m) whe
   is : (i j : ℕ) → T (ltb i 4) → T (ltb j 4) → of c i j ≡ q i j
   is i j s t = of-is i j (lit< s) (lit< t)
 
-  weighed-is : weighed ≡ gate (pixel m)
+  weighed-is : weighed ≡ gate (ofRows m)
   unfolding gate
   weighed-is =
       weigh-same (is 1 2 tt tt) (is 2 1 tt tt) (is 2 3 tt tt) (is 3 2 tt tt) (is 3 0 tt tt) (is 0 3 tt tt) (is 2 2 tt tt) (is 1 3 tt tt)
@@ -138,6 +138,6 @@ module _ (m c : List (List ℤ)) (e : Pixels (pixel m)) (r : c ≡ passes m) whe
       ∙ ring (numbers q) (weighE at) (weightedE gateTerms at) tt
 
   pub stats-is : (g : ℤ) → mag g < 2147483648 → g ≡ weighed
-      → _≡_ {A = WindowStats} (record { sum = of c 0 0; gate = held g; op = of c 3 3 }) (statsOf (pixel m))
+      → _≡_ {A = WindowStats} (record { sum = of c 0 0; gate = held g; op = of c 3 3 }) (statsOf (ofRows m))
   unfolding statsOf
   stats-is g f h = figures (is 0 0 tt tt) (held-of {z = g} f ∙ h ∙ weighed-is) (is 3 3 tt tt)

@@ -5,7 +5,7 @@ use Prim.Native.Nat.{ℕ, _<_}
 use lib.Dec.{lit<}
 use lib.IntN.{ℤ}
 use Rattle.laws.proofs.Machine.{four}
-use Rattle.window.specs.Window.{Window, gate, statsOf, pixel}
+use Rattle.window.specs.Window.{Window, gate, statsOf, ofRows}
 
 abbrev row : Window → ℕ → List ℤ
 row p y = p 0 y ∷ p 1 y ∷ p 2 y ∷ p 3 y ∷ []
@@ -21,8 +21,8 @@ rows-same p q e = four (each 0 (lit< tt)) (each 1 (lit< tt)) (each 2 (lit< tt)) 
 
 pub gate-alike : (p q : Window) → ((x y : ℕ) → x < 4 → y < 4 → p x y ≡ q x y) → gate p ≡ gate q
 unfolding gate
-gate-alike p q e = ap (λ (m : List (List ℤ)). gate (pixel m)) (rows-same p q e)
+gate-alike p q e = ap (λ (m : List (List ℤ)). gate (ofRows m)) (rows-same p q e)
 
 pub stats-alike : (p q : Window) → ((x y : ℕ) → x < 4 → y < 4 → p x y ≡ q x y) → statsOf p ≡ statsOf q
 unfolding statsOf gate
-stats-alike p q e = ap (λ (m : List (List ℤ)). statsOf (pixel m)) (rows-same p q e)
+stats-alike p q e = ap (λ (m : List (List ℤ)). statsOf (ofRows m)) (rows-same p q e)

@@ -3,7 +3,7 @@ use mathlib.Core.List.{List, [], _∷_}
 use Prim.Native.Nat.{ℕ, _+_, _≤_}
 use lib.ListN.{getD}
 use lib.IntN.{ℤ, pos, natAbs, _+ℤ_, _-ℤ_, _*ℤ_}
-use Rattle.window.specs.Window.{sq, pixel}
+use Rattle.window.specs.Window.{sq, ofRows}
 
 pub record Small (n : ℕ) (z : ℤ) : Type 0 where
   pub small : natAbs z ≤ n
@@ -17,14 +17,14 @@ poly4Of a b c d =
     (a +ℤ b +ℤ c +ℤ d) ∷ (pos 3 *ℤ (d -ℤ a) +ℤ c -ℤ b) ∷ (a -ℤ b -ℤ c +ℤ d) ∷ (a -ℤ pos 3 *ℤ b +ℤ pos 3 *ℤ c -ℤ d) ∷ []
 
 abbrev pub columnOf : List (List ℤ) → ℕ → List ℤ
-columnOf m x = pixel m x 0 ∷ pixel m x 1 ∷ pixel m x 2 ∷ pixel m x 3 ∷ []
+columnOf m x = ofRows m x 0 ∷ ofRows m x 1 ∷ ofRows m x 2 ∷ ofRows m x 3 ∷ []
 
 abbrev pub transposed : List (List ℤ) → List (List ℤ)
 transposed m = columnOf m 0 ∷ columnOf m 1 ∷ columnOf m 2 ∷ columnOf m 3 ∷ []
 
 -- the polynomials down column x
 abbrev pub poly4Column : List (List ℤ) → ℕ → List ℤ
-poly4Column m x = poly4Of (pixel m x 0) (pixel m x 1) (pixel m x 2) (pixel m x 3)
+poly4Column m x = poly4Of (ofRows m x 0) (ofRows m x 1) (ofRows m x 2) (ofRows m x 3)
 
 -- row p is polynomial p of each column
 abbrev pub poly4Down : List (List ℤ) → List (List ℤ)

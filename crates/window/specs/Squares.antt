@@ -23,6 +23,6 @@ gated i j = leb 3 (i + j) && not (eqb i 3 && eqb j 3)
 abbrev pub squares : Window → ℤ
 squares p = sum4 (λ y. sum4 (λ x. sq (p x y)))
 
--- the sum of all sixteen squared components, each times its weight
+-- the sum of all sixteen squared components, each times 400 over the product of both squared lengths
 abbrev pub weightedSquares : Window → ℤ
 weightedSquares p = sum4 (λ i. sum4 (λ j. pos (scale i j) *ℤ sq (component p i j)))

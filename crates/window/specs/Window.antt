@@ -16,6 +16,7 @@ pub record Pixel (z : ℤ) : Type 0 where
   pub is : z ≡ pos byte
   pub low : byte ≤ 255
 
+-- a window of pixels
 abbrev pub Pixels : Window → Type 0
 Pixels p = (x y : ℕ) → x < 4 → y < 4 → Pixel (p x y)
 
@@ -61,6 +62,7 @@ weighted (t ∷ ts) c = pos (t .weight) *ℤ sq (c (t .i) (t .j)) +ℤ weighted 
 abbrev pub term : ℕ → ℕ → ℕ → Term
 term w i j = record { weight = w; i = i; j = j }
 
+-- the gate's: with 5, with 25 and with 1
 abbrev pub gateTerms : List Term
 gateTerms =
     term 5 1 2
@@ -81,15 +83,16 @@ gate p = weighted gateTerms (component p)
 abbrev pub gateMost : ℕ
 gateMost = 104040000
 
+-- pixel sum, gate and operator output
 unfoldable pub statsOf : Window → WindowStats
 statsOf p = record { sum = component p 0 0; gate = gate p; op = component p 3 3 }
 
 -- ---- where the pixels stand
 
--- in four rows of four
-abbrev pub pixel : List (List ℤ) → Window
-pixel m x y = getD (getD m y []) x (pos 0)
+-- held in four rows of four
+abbrev pub ofRows : List (List ℤ) → Window
+ofRows m x y = getD (getD m y []) x (pos 0)
 
--- in an image whose rows are w apart, from the place `at` on
+-- standing in an image whose rows are w apart, from the place `at` on
 abbrev pub pixelsAt : List ℕ → ℕ → ℕ → Window
 pixelsAt img w at x y = pos (getD img (at + y * w + x) 0)

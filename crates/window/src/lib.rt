@@ -4,7 +4,7 @@ ghost use mathlib.Core.List.{[], _∷_};
 ghost use Prim.Native.Nat.{_+_, _*_, _<_, _≤_};
 ghost use lib.ListN.{length};
 ghost use Rattle.laws.specs.Lists.{Each, Each²};
-ghost use Rattle.window.specs.Window.{Pixel, pixel, pixelsAt, statsOf};
+ghost use Rattle.window.specs.Window.{Pixel, ofRows, pixelsAt, statsOf};
 ghost use Rattle.window.specs.Passes.{Small, rowAt, poly4Of, poly4Column, poly4Down, columnOf, transposed, weighOf};
 
 // What is measured of a window.
@@ -44,7 +44,7 @@ fn row(img: &[u8], at: usize) -> [i32; 4]
 // The window px[y][x]: the polynomials down the columns, then across. c[i][j] is component (i, j).
 pub fn window_stats(px: [[i32; 4]; 4]) -> WindowStats
     requires { ⌜ Each² Pixel px ⌝ }
-    ensures { λ r. ⌜ r ≡ statsOf (pixel px) ⌝ }
+    ensures { λ r. ⌜ r ≡ statsOf (ofRows px) ⌝ }
 {
     let d = poly4_down(px);
     let t = transpose(d);

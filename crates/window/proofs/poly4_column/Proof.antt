@@ -7,7 +7,7 @@ use lib.Dec.{lit≤}
 use lib.IntN.{ℤ}
 use lib.Signed.{mag}
 use Rattle.laws.proofs.Machine.{held, held-of, each²-at}
-use Rattle.window.specs.Window.{pixel}
+use Rattle.window.specs.Window.{ofRows}
 use Rattle.window.specs.Passes.{Small, poly4Of}
 use Rattle.window.proofs.Places.{_and_}
 use Rattle.window.proofs.poly4_column.Statement.{statement}
@@ -26,7 +26,7 @@ same : (a b c d : ℤ) → In a → In b → In c → In d → poly4Of (held a) 
 same a b c d p q r s = poly4-same (held-of {z = a} p) (held-of {z = b} q) (held-of {z = c} r) (held-of {z = d} s)
 
 low : (y : ℕ) (c : tie.After-poly4-arg4)
-    → Small 4080 (pixel (c .before .before .before .before .args .t1) (c .before .before .before .before .args .x) y)
+    → Small 4080 (ofRows (c .before .before .before .before .args .t1) (c .before .before .before .before .args .x) y)
 low y c =
     let s = c .before .before .before .before in
     each²-at (Small 4080) (record { small = lit≤ tt }) (s .args .t1) (s .pre .1) y (s .args .x)
@@ -77,7 +77,7 @@ returns c =
     let m = c .before .before .before .before .before .args .t1 in
     let x = c .before .before .before .before .before .args .x in
     c .poly4 .ensures
-    ∙ same (pixel m x 0) (pixel m x 1) (pixel m x 2) (pixel m x 3) (c .before .before .before .before .poly4-arg .given) (c .before .before .before .poly4-arg2 .given)
+    ∙ same (ofRows m x 0) (ofRows m x 1) (ofRows m x 2) (ofRows m x 3) (c .before .before .before .before .poly4-arg .given) (c .before .before .before .poly4-arg2 .given)
     (c .before .before .poly4-arg3 .given) (c .before .poly4-arg4 .given)
 
 pub poly4-column-spec : {M : Type 1} → statement M

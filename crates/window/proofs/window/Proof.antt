@@ -11,7 +11,7 @@ use mir.Val.{Fits}
 use denote.Ref.{now}
 use Rattle.laws.specs.Lists.{Each}
 use Rattle.laws.proofs.Machine.{four}
-use Rattle.window.specs.Window.{Pixel, pixel, pixelsAt, statsOf}
+use Rattle.window.specs.Window.{Pixel, ofRows, pixelsAt, statsOf}
 use Rattle.window.specs.Passes.{rowAt}
 use Rattle.window.proofs.Places.{_and_, below4}
 use Rattle.window.proofs.Same.{stats-alike}
@@ -37,9 +37,9 @@ in-row l a b e =
     one : (i x : ℕ) → i ≡ b + x → pos (getD l i 0) ≡ pos (getD l (b + x) 0)
     one i x h = ap (λ (n : ℕ). pos (getD l n 0)) h
 
-place : (l : List ℕ) (w at x y : ℕ) → x < 4 → y < 4 → pixel (rowsAt l w at) x y ≡ pixelsAt l w at x y
+place : (l : List ℕ) (w at x y : ℕ) → x < 4 → y < 4 → ofRows (rowsAt l w at) x y ≡ pixelsAt l w at x y
 place l w at x y p =
-    below4 (λ y. pixel (rowsAt l w at) x y ≡ pixelsAt l w at x y) (in-row l at (at + 0 * w) (omega arith) x p)
+    below4 (λ y. ofRows (rowsAt l w at) x y ≡ pixelsAt l w at x y) (in-row l at (at + 0 * w) (omega arith) x p)
     (in-row l (at + w) (at + 1 * w) (omega arith) x p) (in-row l (at + 2 * w) (at + 2 * w) refl x p)
     (in-row l (at + 3 * w) (at + 3 * w) refl x p) y
 
@@ -86,10 +86,10 @@ returns : tie.Need-returns
 returns c =
     let s = c .before .before .before .before .before .before in
     c .window-stats .ensures
-    ∙ ap (λ (m : List (List ℤ)). statsOf (pixel m))
+    ∙ ap (λ (m : List (List ℤ)). statsOf (ofRows m))
     (four (c .before .before .before .before .row .ensures) (c .before .before .before .row2 .ensures) (c .before .before .row3 .ensures)
     (c .before .row4 .ensures))
-    ∙ stats-alike (pixel (rowsAt (now (s .args .img)) (s .args .w) (s .args .at))) (pixelsAt (now (s .args .img)) (s .args .w) (s .args .at))
+    ∙ stats-alike (ofRows (rowsAt (now (s .args .img)) (s .args .w) (s .args .at))) (pixelsAt (now (s .args .img)) (s .args .w) (s .args .at))
     (place (now (s .args .img)) (s .args .w) (s .args .at))
 
 pub window-spec : {M : Type 1} → statement M

@@ -7,7 +7,7 @@ use borrow.Author.Needs.{needs}
 use lib.Dec.{T, ltb, leb}
 use lib.IntN.{ℤ}
 use Rattle.laws.specs.Lists.{Each²}
-use Rattle.window.specs.Window.{Pixels, pixel}
+use Rattle.window.specs.Window.{Pixels, ofRows}
 use Rattle.window.specs.Passes.{Small, transposed, poly4Down}
 use Rattle.window.proofs.Passes.{passes, in-rows, of, pixels-small, passed-small, of-small, stats-is}
 use Rattle.window.proofs.Bounds.{most}
@@ -19,7 +19,7 @@ passed : (a : tie.After-poly4-down2) → a .poly4-down2 .result ≡ passes (a .b
 passed a =
     a .poly4-down2 .ensures ∙ ap poly4Down (a .before .transpose .ensures ∙ ap transposed (a .before .before .poly4-down .ensures))
 
-measured : (a : tie.After-poly4-down2) → Pixels (pixel (a .before .before .before .args .px))
+measured : (a : tie.After-poly4-down2) → Pixels (ofRows (a .before .before .before .args .px))
 measured a = in-rows (a .before .before .before .args .px) (a .before .before .before .pre)
 
 -- each component is as small as `weigh` wants it, whichever it is
