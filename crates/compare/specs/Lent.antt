@@ -3,7 +3,9 @@ use Prim.Native.Nat.{ℕ}
 use mathlib.Core.Path.{_≡_}
 use mathlib.Core.List.{List, [], _∷_}
 use lib.IntN.{ℤ}
-use lib.Ieee.{Float}
+use lib.ListN.{getD}
+use lib.Ieee.{Float, nan}
+use Rattle.refine.specs.Covariance.{covariance}
 use Rattle.refine.specs.declared.PositionCovariance.{PositionCovariance}
 use Rattle.gradients.specs.declared.PixelGradients.{PixelGradients}
 use Rattle.gradients.specs.declared.Handed.{Handed}
@@ -18,6 +20,9 @@ pub record Left (h : Handed) (number : ℕ) (origin : List ℤ) (side : ℕ) (gx
   pub wide : side ≡ h .state .side
   pub left : gx ≡ h .state .gx
   pub right : gy ≡ h .state .gy
+
+abbrev pub three : List Float → PositionCovariance
+three l = covariance (getD l 0 nan) (getD l 1 nan) (getD l 2 nan)
 
 abbrev pub entries : PositionCovariance → List Float
 entries c = c .xx ∷ c .xy ∷ c .yy ∷ []

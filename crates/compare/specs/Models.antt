@@ -1,16 +1,17 @@
 -- Models that are lent by their floats, and models as floats.
 use Prim.Native.Nat.{ℕ}
 use mathlib.Core.Bool.{Bool, cond}
-use mathlib.Core.List.{List, [], _∷_}
+use mathlib.Core.Path.{_≡_}
+use mathlib.Core.List.{List, [], _∷_, _++_}
 use lib.ListN.{getD}
 use lib.Ieee.{Float, nan}
-use Rattle.refine.specs.Covariance.{covariance}
-use Rattle.refine.specs.declared.PositionCovariance.{PositionCovariance}
 use Rattle.model.specs.declared.SystematicModel.{SystematicModel}
 use Rattle.model.specs.declared.CovarianceModel.{CovarianceModel}
 use Rattle.model.specs.declared.At.{At}
 use Rattle.model.specs.declared.Width.{Width}
 use Rattle.model.specs.declared.Width.the-variants.{Known, Unknown}
+use Rattle.model.specs.declared.Modelled.{Modelled}
+use Rattle.compare.specs.Lent.{three, entries}
 
 abbrev pub table : List Float → List Float → List Float → ℕ → Float → SystematicModel
 table widths gains residuals count floor = record { widths = widths; gains = gains; residuals = residuals; count = count; floor = floor }
@@ -18,15 +19,13 @@ table widths gains residuals count floor = record { widths = widths; gains = gai
 abbrev pub wide : Bool → Float → Width
 wide known w = cond known (Known w) Unknown
 
-abbrev pub three : List Float → PositionCovariance
-three l = covariance (getD l 0 nan) (getD l 1 nan) (getD l 2 nan)
-
 abbrev pub whole : List Float → List Float → List Float → CovarianceModel
 whole noise systematic growth = record { noise = three noise; systematic = three systematic; growth = growth }
 
 abbrev pub gained : At → List Float
 gained a = a .gain ∷ a .residual ∷ []
 
-abbrev pub modelled : CovarianceModel → List Float
-modelled m =
-    m .noise .xx ∷ m .noise .xy ∷ m .noise .yy ∷ m .systematic .xx ∷ m .systematic .xy ∷ m .systematic .yy ∷ getD (m .growth) 0 nan ∷ getD (m .growth) 1 nan ∷ []
+-- the number, and the model by its eight floats
+pub record Told (m : Modelled) (number : ℕ) (out : List Float) : Type 0 where
+  pub told : number ≡ m .number
+  pub laid : out ≡ entries (m .model .noise) ++ (entries (m .model .systematic) ++ (getD (m .model .growth) 0 nan ∷ getD (m .model .growth) 1 nan ∷ []))

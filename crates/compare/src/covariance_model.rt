@@ -4,13 +4,14 @@ ghost use Rattle.model.specs.Knots.{atOf};
 ghost use Rattle.model.specs.Noise.{noiseAt, total};
 ghost use Rattle.model.specs.Model.{modelOf};
 ghost use Rattle.refine.specs.Covariance.{number, figures};
-ghost use Rattle.compare.specs.Lent.{entries};
-ghost use Rattle.compare.specs.Models.{table, wide, three, whole, gained, modelled};
+ghost use Rattle.compare.specs.Lent.{three, entries};
+ghost use Rattle.compare.specs.Models.{table, wide, whole, gained, Told};
+use crate::covariances::covariance_of;
+use crate::covariances::told;
 use model::CovarianceModel;
+use model::Modelled;
 use model::SystematicModel;
 use model::Width;
-use refine::Judged;
-use refine::PositionCovariance;
 
 fn width_of(known: bool, w: f32) -> Width
     ensures { λ r. ⌜ r ≡ wide known w ⌝ }
@@ -64,7 +65,7 @@ pub extern "C" fn vuzgari_compare_model(
     grid: f32,
     out: &mut [f32; 8],
 ) -> u32
-    ensures { λ r. ⌜ (r ≡ modelOf (table (now (widths .entry)) (now (gains .entry)) (now (residuals .entry)) count floor) (three (now (noise .entry))) (now (offset .entry)) (wide known w) grid .number) × (now (out .exit) ≡ modelled (modelOf (table (now (widths .entry)) (now (gains .entry)) (now (residuals .entry)) count floor) (three (now (noise .entry))) (now (offset .entry)) (wide known w) grid .model)) ⌝ }
+    ensures { λ r. ⌜ Told (modelOf (table (now (widths .entry)) (now (gains .entry)) (now (residuals .entry)) count floor) (three (now (noise .entry))) (now (offset .entry)) (wide known w) grid) r (now (out .exit)) ⌝ }
 {
     let a = *widths;
     let b = *gains;
@@ -77,14 +78,30 @@ pub extern "C" fn vuzgari_compare_model(
         count,
         floor,
     };
-    let n = PositionCovariance::new(noise[0], noise[1], noise[2]);
-    let answer = s.model(n, u, width_of(known, w), grid);
+    lay(s.model(covariance_of(noise), u, width_of(known, w), grid), out)
+}
+
+// The number, and the model's eight floats.
+fn lay(answer: Modelled, out: &mut [f32; 8]) -> u32
+    ensures { λ r. ⌜ Told answer r (now (out .exit)) ⌝ }
+{
     let m = answer.model;
     let d = m.noise;
     let e = m.systematic;
     let g = m.growth;
     *out = [d.xx, d.xy, d.yy, e.xx, e.xy, e.yy, g[0], g[1]];
     answer.number
+}
+
+fn model_of(noise: &[f32; 3], systematic: &[f32; 3], growth: &[f32; 2]) -> CovarianceModel
+    ensures { λ r. ⌜ r ≡ whole (now (noise .entry)) (now (systematic .entry)) (now (growth .entry)) ⌝ }
+{
+    let g = *growth;
+    CovarianceModel {
+        noise: covariance_of(noise),
+        systematic: covariance_of(systematic),
+        growth: g,
+    }
 }
 
 #[no_mangle]
@@ -97,22 +114,7 @@ pub extern "C" fn vuzgari_compare_noise_at(
 ) -> u32
     ensures { λ r. ⌜ (r ≡ number (noiseAt (whole (now (noise .entry)) (now (systematic .entry)) (now (growth .entry))) sigma)) × (now (out .exit) ≡ entries (figures (noiseAt (whole (now (noise .entry)) (now (systematic .entry)) (now (growth .entry))) sigma))) ⌝ }
 {
-    let g = *growth;
-    let m = CovarianceModel {
-        noise: PositionCovariance::new(noise[0], noise[1], noise[2]),
-        systematic: PositionCovariance::new(systematic[0], systematic[1], systematic[2]),
-        growth: g,
-    };
-    match m.noise_at(sigma) {
-        Judged::Covariance(c) => {
-            *out = [c.xx, c.xy, c.yy];
-            0
-        }
-        Judged::Refused(k) => {
-            *out = [0.0, 0.0, 0.0];
-            k
-        }
-    }
+    told(model_of(noise, systematic, growth).noise_at(sigma), out)
 }
 
 #[no_mangle]
@@ -125,20 +127,5 @@ pub extern "C" fn vuzgari_compare_total(
 ) -> u32
     ensures { λ r. ⌜ (r ≡ number (total (whole (now (noise .entry)) (now (systematic .entry)) (now (growth .entry))) sigma)) × (now (out .exit) ≡ entries (figures (total (whole (now (noise .entry)) (now (systematic .entry)) (now (growth .entry))) sigma))) ⌝ }
 {
-    let g = *growth;
-    let m = CovarianceModel {
-        noise: PositionCovariance::new(noise[0], noise[1], noise[2]),
-        systematic: PositionCovariance::new(systematic[0], systematic[1], systematic[2]),
-        growth: g,
-    };
-    match m.total(sigma) {
-        Judged::Covariance(c) => {
-            *out = [c.xx, c.xy, c.yy];
-            0
-        }
-        Judged::Refused(k) => {
-            *out = [0.0, 0.0, 0.0];
-            k
-        }
-    }
+    told(model_of(noise, systematic, growth).total(sigma), out)
 }

@@ -4,9 +4,29 @@ ghost use mathlib.Core.List.{[], _∷_};
 ghost use Rattle.gradients.specs.Gradients.{resetOf, addOf, covarianceOf};
 ghost use Rattle.refine.specs.Covariance.{number, figures};
 ghost use Rattle.compare.specs.Lent.{state, Left, entries};
+use crate::covariances::told;
 use gradients::Handed;
 use gradients::PixelGradients;
-use refine::Judged;
+
+fn leave(
+    h: Handed,
+    origin: &mut [i32; 2],
+    side: &mut usize,
+    gx: &mut [f32; 1024],
+    gy: &mut [f32; 1024],
+) -> u32
+    ensures { λ r. ⌜ Left h r (now (origin .exit)) (now (side .exit)) (now (gx .exit)) (now (gy .exit)) ⌝ }
+{
+    let s = h.state;
+    let o = s.origin;
+    let x = s.gx;
+    let y = s.gy;
+    *origin = o;
+    *side = s.side;
+    *gx = x;
+    *gy = y;
+    h.number
+}
 
 #[no_mangle]
 pub extern "C" fn vuzgari_compare_reset(
@@ -30,16 +50,7 @@ pub extern "C" fn vuzgari_compare_reset(
         gx: a,
         gy: b,
     };
-    let h = s.reset([x, y], n);
-    let t = h.state;
-    let p = t.origin;
-    let c = t.gx;
-    let d = t.gy;
-    *origin = p;
-    *side = t.side;
-    *gx = c;
-    *gy = d;
-    h.number
+    leave(s.reset([x, y], n), origin, side, gx, gy)
 }
 
 #[no_mangle]
@@ -65,16 +76,7 @@ pub extern "C" fn vuzgari_compare_add(
         gx: a,
         gy: b,
     };
-    let h = s.add(x, y, [vx, vy]);
-    let t = h.state;
-    let p = t.origin;
-    let c = t.gx;
-    let d = t.gy;
-    *origin = p;
-    *side = t.side;
-    *gx = c;
-    *gy = d;
-    h.number
+    leave(s.add(x, y, [vx, vy]), origin, side, gx, gy)
 }
 
 // The figures go to `out`.
@@ -97,14 +99,5 @@ pub extern "C" fn vuzgari_compare_covariance(
         gx: a,
         gy: b,
     };
-    match s.covariance() {
-        Judged::Covariance(c) => {
-            *out = [c.xx, c.xy, c.yy];
-            0
-        }
-        Judged::Refused(n) => {
-            *out = [0.0, 0.0, 0.0];
-            n
-        }
-    }
+    told(s.covariance(), out)
 }

@@ -1,0 +1,23 @@
+-- Parts that hold one answer hold any equal to it. Assumes nothing.
+use mathlib.Core.Path.{_≡_, ap, _∙_, subst}
+use mathlib.Core.List.{List}
+use Prim.Native.Nat.{ℕ}
+use lib.IntN.{ℤ}
+use lib.Ieee.{Float}
+use mir.Syntax.{w32}
+use mir.Val.{SFits, toZ, ofZ}
+use mir.Facts.{toZ-ofZ}
+use Rattle.gradients.specs.declared.Handed.{Handed}
+use Rattle.model.specs.declared.Modelled.{Modelled}
+use Rattle.compare.specs.Lent.{Left}
+use Rattle.compare.specs.Models.{Told}
+
+pub left-of : {h k : Handed} {n side : ℕ} {o : List ℤ} {x y : List Float} → h ≡ k → Left h n o side x y → Left k n o side x y
+left-of {h} {k} {n} {side} {o} {x} {y} e l = subst (λ (h : Handed). Left h n o side x y) e l
+
+pub told-of : {m k : Modelled} {n : ℕ} {out : List Float} → m ≡ k → Told m n out → Told k n out
+told-of {m} {k} {n} {out} e t = subst (λ (m : Modelled). Told m n out) e t
+
+-- two i32 are held as they stand
+pub held-pair : {A : Type 0} (f : ℤ → ℤ → A) {x y : ℤ} → SFits w32 x → SFits w32 y → f (toZ w32 (ofZ w32 x)) (toZ w32 (ofZ w32 y)) ≡ f x y
+held-pair f {x} {y} p q = ap (λ (z : ℤ). f z (toZ w32 (ofZ w32 y))) (toZ-ofZ p) ∙ ap (f x) (toZ-ofZ q)

@@ -1,0 +1,2 @@
+-- What is lent, of equal answers.
+pub mod Answers

@@ -1,0 +1,29 @@
+-- `at` of the knots that are lent. Assumes nothing.
+use mathlib.Core.Path.{_≡_, ap, _∙_}
+use denote.Ref.{now}
+use borrow.Author.Needs.{needs}
+use Rattle.model.specs.declared.At.{At}
+use Rattle.model.specs.Knots.{atOf}
+use Rattle.compare.specs.Models.{table, wide, gained}
+use Rattle.compare.proofs.covariance_model.vuzgari_compare_at.Statement.{statement}
+use Rattle.compare.proofs.covariance_model.vuzgari_compare_at.Tie as tie
+
+answer : (c : tie.After-at) → let a = c .before .before .before .before .before .args in c .at .result ≡ atOf (table (now (a .widths)) (now (a .gains)) (now (a .residuals)) (a .count) (a .floor)) (wide (a .known) (a .w))
+answer c =
+    let a = c .before .before .before .before .before .args in
+    c .at .ensures ∙ ap (atOf (table (now (a .widths)) (now (a .gains)) (now (a .residuals)) (a .count) (a .floor))) (c .before .width-of .ensures)
+
+-- src/covariance_model.rt:49:22
+width-of-requires : tie.Need-width-of-requires
+width-of-requires c κs = search needs
+
+-- src/covariance_model.rt:49:9
+at-requires : tie.Need-at-requires
+at-requires c κs = search needs
+
+-- src/covariance_model.rt:26:1
+returns : tie.Need-returns
+returns c = (ap (λ (r : At). r .number) (answer (c .before)), ap gained (answer (c .before)))
+
+pub vuzgari-compare-at-spec : {M : Type 1} → statement M
+vuzgari-compare-at-spec = tie.close (tie.spec width-of-requires at-requires returns)

@@ -1,0 +1,27 @@
+// What an answer is to C: its number, and its figures in a lent slice.
+ghost use mathlib.Core.Path.{_≡_};
+ghost use Rattle.refine.specs.Covariance.{number, figures};
+ghost use Rattle.compare.specs.Lent.{three, entries};
+use refine::Judged;
+use refine::PositionCovariance;
+
+pub fn told(answer: Judged, out: &mut [f32; 3]) -> u32
+    ensures { λ r. ⌜ (r ≡ number answer) × (now (out .exit) ≡ entries (figures answer)) ⌝ }
+{
+    match answer {
+        Judged::Covariance(c) => {
+            *out = [c.xx, c.xy, c.yy];
+            0
+        }
+        Judged::Refused(n) => {
+            *out = [0.0, 0.0, 0.0];
+            n
+        }
+    }
+}
+
+pub fn covariance_of(floats: &[f32; 3]) -> PositionCovariance
+    ensures { λ r. ⌜ r ≡ three (now (floats .entry)) ⌝ }
+{
+    PositionCovariance::new(floats[0], floats[1], floats[2])
+}
