@@ -4,8 +4,12 @@
 use crate::{images, images::Image, random, speed::beside, value::Value, Run, Stored, Topic};
 
 mod floats;
+mod grid;
 mod known;
 mod noise;
 mod patterns;
+mod sample;
+mod window;
 
-pub const ALL: &[Topic] = &[known::TOPIC, floats::TOPIC, noise::TOPIC, noise::LARGE, patterns::TOPIC];
+pub const ALL: &[Topic] =
+    &[known::TOPIC, floats::TOPIC, window::TOPIC, grid::TOPIC, sample::TOPIC, noise::TOPIC, noise::LARGE, patterns::TOPIC];

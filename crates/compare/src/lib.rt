@@ -1,3 +1,6 @@
 // Exports for comparison only: what document 01 does not call from C, under names of its own, so that `oracle/` can run it
 // beside the original. Each has the contract of the function it calls.
 pub mod floats;
+pub mod grids;
+pub mod samples;
+pub mod windows;

@@ -1,8 +1,8 @@
 -- How many numbers of a progression lie below an end: those whose index is below the count, and no others. Assumes nothing.
-use mathlib.Core.Path.{_≡_, refl, sym, ap, _∙_}
+use mathlib.Core.Path.{_≡_, sym, ap, _∙_}
 use mathlib.Core.Logic.{_↔_}
-use Prim.Native.Nat.{ℕ, zero, suc, _+_, _-_, _*_, _/_, _≤_, _<_}
-use native.Mathlib.Nat.{le-div-iff-mul-le, mul-le-mul-left, div-eq-of-lt, div-le-self, add-div-right}
+use Prim.Native.Nat.{ℕ, _+_, _-_, _*_, _/_, _≤_, _<_}
+use native.Mathlib.Nat.{le-div-iff-mul-le, mul-le-mul-left, add-div-right}
 use native.Mathlib.Omega.{arith}
 use Rattle.grid.specs.Grid.{countBelow}
 

@@ -1,7 +1,7 @@
 -- Steps, first x and window counts that document 01 gives. Assumes nothing.
-use mathlib.Core.Path.{_≡_, refl, ap, _∙_}
+use mathlib.Core.Path.{_≡_, refl}
 use mathlib.Core.List.{List, [], _∷_, map}
-use Prim.Native.Nat.{ℕ, _*_, max}
+use Prim.Native.Nat.{ℕ, _*_}
 use Rattle.grid.specs.Step.{stepOf}
 use Rattle.grid.specs.Grid.{firstX, totalOf}
 use Rattle.grid.specs.Needed.{firstW, secondW, neededOf}

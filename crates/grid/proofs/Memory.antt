@@ -1,10 +1,10 @@
 -- M holds either pass, and is no more than one of them asks for; each case of the sizing call's answer says its own. Assumes nothing.
-use mathlib.Core.Path.{_≡_, refl, sym, ap, _∙_, subst}
-use mathlib.Core.Bool.{Bool, true, false, cond, _||_}
+use mathlib.Core.Path.{_≡_, refl, sym, ap, _∙_}
+use mathlib.Core.Bool.{Bool, true, false, cond}
 use Prim.Native.Nat.{ℕ, _*_, _≤_, _<_, max}
 use native.Mathlib.Omega.{arith}
 use borrow.Author.Tests.{eq-eqb, ne-eqb, eqb-false, lt-ltb, le-ltb}
-use lib.Dec.{eqb, ltb}
+use lib.Dec.{eqb}
 use Rattle.laws.proofs.Choice.{chosen, passed}
 use Rattle.grid.specs.Step.{stepOf}
 use Rattle.grid.specs.Grid.{Sides, totalOf}

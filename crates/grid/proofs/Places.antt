@@ -1,16 +1,16 @@
 -- The places of a pass: how many there are, and that each one's window lies inside the image. Assumes nothing.
 use mathlib.Core.Path.{_≡_, refl, sym, ap, _∙_, subst}
-use mathlib.Core.List.{List, [], _∷_, _++_, List·Memᴰ, List·Memᴰ·not-nil, List·Memᴰ·cases-cons, List·Memᴰ·append-cases}
+use mathlib.Core.List.{List, List·Memᴰ, List·Memᴰ·not-nil, List·Memᴰ·cases-cons, List·Memᴰ·append-cases}
 use mathlib.Core.Logic.{⊎-elim}
-use Prim.Native.Nat.{ℕ, zero, suc, _+_, _-_, _*_, _/_, _%_, _≤_, _<_}
-use native.Mathlib.Nat.{mul-le-mul, mul-le-mul-right, div-lt-iff-lt-mul}
+use Prim.Native.Nat.{ℕ, zero, suc, _+_, _-_, _*_, _%_, _≤_, _<_}
+use native.Mathlib.Nat.{mul-le-mul-right, div-lt-iff-lt-mul}
 use native.Mathlib.Omega.{arith}
 use lib.ListN.{length, length-append}
 use Rattle.laws.specs.Lists.{from, joined}
 use Rattle.laws.proofs.Fill.{length-from, joined-more}
 use Rattle.grid.specs.Step.{stepOf}
-use Rattle.grid.specs.Grid.{Place, Sides, countBelow, firstX, rowCount, rowOf, rowsOf, placesOf, totalOf}
-use Rattle.grid.proofs.Steps.{IsStep, step-is}
+use Rattle.grid.specs.Grid.{Place, firstX, rowCount, rowOf, rowsOf, placesOf, totalOf}
+use Rattle.grid.proofs.Steps.{step-is}
 use Rattle.grid.proofs.Counts.{counted, count-most}
 
 -- ---- how many

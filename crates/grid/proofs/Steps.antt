@@ -5,7 +5,7 @@ use mathlib.Core.Logic.{⊎-elim}
 use Prim.Native.Nat.{ℕ, zero, suc, _+_, _-_, _*_, _≤_, _<_}
 use native.Mathlib.Nat.{eq-or-lt-of-le, le-antisymm, mul-le-mul, mul-le-mul-left, mul-le-mul-right}
 use native.Mathlib.Omega.{arith}
-use borrow.Author.Tests.{leb-true, leb-false, le-leb}
+use borrow.Author.Tests.{leb-true, leb-false}
 use lib.Dec.{leb}
 use Rattle.grid.specs.Step.{firstFrom, stepOf}
 use Rattle.grid.specs.Grid.{Sides}

@@ -35,7 +35,8 @@ module _ {A : Type 0} where
       record {
         front = ap (λ (k : List A). k ++ rest) (take-set-one buf at v h) ∙ append-snoc (take at buf) v rest ∙ w .front;
         back = drop-set-one buf at v ∙ back-more buf buf₀ at (w .back);
-        long = length-set buf at v ∙ w .long }
+        long = length-set buf at v ∙ w .long;
+      }
 
   pub end : {goal buf₀ buf : List A} {at : ℕ} → Writing goal buf₀ at buf [] → buf ≡ goal ++ drop at buf₀
   end {goal} {buf₀} {buf} {at} w =
@@ -71,22 +72,29 @@ pub record Row {A : Type 0} (f : ℕ → A) (out₀ : List A) (to n k : ℕ) (ou
 module _ {A : Type 0} {f : ℕ → A} {out₀ : List A} {to n : ℕ} where
   pub row-start : Row f out₀ to n 0 out₀
   row-start =
-      record { low = omega arith; long = refl;
-      writing = subst (λ (i : ℕ). Writing (take to out₀ ++ from f 0 n) out₀ i out₀ (from f 0 (n - 0))) (nothing to)
-      (subst (λ (i : ℕ). Writing (take to out₀ ++ from f 0 n) out₀ to out₀ (from f 0 i)) (whole n) (start out₀ to (from f 0 n))) }
+      record {
+        low = omega arith;
+        long = refl;
+        writing = subst (λ (i : ℕ). Writing (take to out₀ ++ from f 0 n) out₀ i out₀ (from f 0 (n - 0))) (nothing to)
+            (subst (λ (i : ℕ). Writing (take to out₀ ++ from f 0 n) out₀ to out₀ (from f 0 i)) (whole n) (start out₀ to (from f 0 n)));
+      }
     where
       nothing : (a : ℕ) → a ≡ a + 0
       nothing a = omega arith
+
       whole : (a : ℕ) → a ≡ a - 0
       whole a = omega arith
 
   pub row-put : {k : ℕ} {out : List A} {v : A} → Row f out₀ to n k out → k < n → to + n ≤ length out₀ → v ≡ f k → Row f out₀ to n (k + 1) (set out (to + k) v)
   row-put {k} {out} {v} r h i e =
-      record { low = omega arith; long = length-set out (to + k) v ∙ r .long;
-      writing = subst (λ (j : ℕ). Writing (take to out₀ ++ from f 0 n) out₀ j (set out (to + k) v) (from f (k + 1) (n - (k + 1)))) (over to k)
-      (put (omega (arith, r .long))
-        (subst (λ (l : List A). Writing (take to out₀ ++ from f 0 n) out₀ (to + k) out l)
-        (from-more f k n h ∙ ap (λ (x : A). x ∷ from f (k + 1) (n - (k + 1))) (sym e)) (r .writing))) }
+      record {
+        low = omega arith;
+        long = length-set out (to + k) v ∙ r .long;
+        writing = subst (λ (j : ℕ). Writing (take to out₀ ++ from f 0 n) out₀ j (set out (to + k) v) (from f (k + 1) (n - (k + 1)))) (over to k)
+            (put (omega (arith, r .long))
+            (subst (λ (l : List A). Writing (take to out₀ ++ from f 0 n) out₀ (to + k) out l)
+            (from-more f k n h ∙ ap (λ (x : A). x ∷ from f (k + 1) (n - (k + 1))) (sym e)) (r .writing)));
+      }
     where
       over : (a b : ℕ) → a + b + 1 ≡ a + (b + 1)
       over a b = omega arith
@@ -108,16 +116,22 @@ pub record Front {A : Type 0} (f : ℕ → A) (out₀ : List A) (n k : ℕ) (out
 
 module _ {A : Type 0} {f : ℕ → A} {out₀ : List A} {n : ℕ} where
   pub front-start : Front f out₀ n 0 out₀
-  front-start = record { low = omega arith; long = refl;
-      writing = subst (λ (i : ℕ). Writing (from f 0 n) out₀ 0 out₀ (from f 0 i)) (whole n) (start out₀ 0 (from f 0 n)) }
+  front-start = record {
+    low = omega arith;
+    long = refl;
+    writing = subst (λ (i : ℕ). Writing (from f 0 n) out₀ 0 out₀ (from f 0 i)) (whole n) (start out₀ 0 (from f 0 n));
+  }
     where
       whole : (a : ℕ) → a ≡ a - 0
       whole a = omega arith
 
   pub front-put : {k : ℕ} {out : List A} {v : A} → Front f out₀ n k out → k < n → n ≤ length out₀ → v ≡ f k → Front f out₀ n (k + 1) (set out k v)
-  front-put {k} {out} {v} r h i e = record { low = omega arith; long = length-set out k v ∙ r .long;
-      writing = put (omega (arith, r .long)) (subst (λ (l : List A). Writing (from f 0 n) out₀ k out l)
-        (from-more f k n h ∙ ap (λ (x : A). x ∷ from f (k + 1) (n - (k + 1))) (sym e)) (r .writing)) }
+  front-put {k} {out} {v} r h i e = record {
+    low = omega arith;
+    long = length-set out k v ∙ r .long;
+    writing = put (omega (arith, r .long)) (subst (λ (l : List A). Writing (from f 0 n) out₀ k out l)
+        (from-more f k n h ∙ ap (λ (x : A). x ∷ from f (k + 1) (n - (k + 1))) (sym e)) (r .writing));
+  }
 
   pub front-end : {k : ℕ} {out : List A} → Front f out₀ n k out → n ≤ k → out ≡ from f 0 n ++ drop n out₀
   front-end {k} {out} r g =
@@ -141,9 +155,12 @@ module _ {A : Type 0} {f : ℕ → A} {n : ℕ} where
       whole a = omega arith
 
   pub tab-put : {k : ℕ} {out : List A} {v : A} → Tab f n k out → k < n → v ≡ f k → Tab f n (k + 1) (set out k v)
-  tab-put {k} {out} {v} r h e = record { low = omega arith; long = length-set out k v ∙ r .long;
-      front = ap (λ (l : List A). l ++ from f (k + 1) (n - (k + 1))) (take-set-one out k v (omega (arith, r .long))) ∙ append-snoc (take k out) v (from f (k + 1) (n - (k + 1)))
-        ∙ ap (λ (x : A). take k out ++ (x ∷ from f (k + 1) (n - (k + 1)))) e ∙ ap (λ (l : List A). take k out ++ l) (sym (from-more f k n h)) ∙ r .front }
+  tab-put {k} {out} {v} r h e = record {
+    low = omega arith;
+    long = length-set out k v ∙ r .long;
+    front = ap (λ (l : List A). l ++ from f (k + 1) (n - (k + 1))) (take-set-one out k v (omega (arith, r .long))) ∙ append-snoc (take k out) v (from f (k + 1) (n - (k + 1)))
+        ∙ ap (λ (x : A). take k out ++ (x ∷ from f (k + 1) (n - (k + 1)))) e ∙ ap (λ (l : List A). take k out ++ l) (sym (from-more f k n h)) ∙ r .front;
+  }
 
   pub tab-end : {k : ℕ} {out : List A} → Tab f n k out → n ≤ k → out ≡ from f 0 n
   tab-end {k} {out} r g =
@@ -173,15 +190,17 @@ module _ {A : Type 0} where
   put-many {goal} {buf₀} {buf} {buf′} {rest} {at} {n} new q h e w =
       record {
         front = ap (λ (l : List A). take (at + n) l ++ rest) e
-          ∙ ap (λ (l : List A). l ++ rest) (take-at (take at buf ++ new) (drop (at + n) buf) (at + n) long-head)
-          ∙ append-assoc (take at buf) new rest ∙ w .front;
+            ∙ ap (λ (l : List A). l ++ rest) (take-at (take at buf ++ new) (drop (at + n) buf) (at + n) long-head)
+            ∙ append-assoc (take at buf) new rest ∙ w .front;
         back = ap (λ (l : List A). drop (at + n) l) e ∙ drop-at (take at buf ++ new) (drop (at + n) buf) (at + n) long-head
-          ∙ back-many buf buf₀ at n (w .back);
+            ∙ back-many buf buf₀ at n (w .back);
         long = ap length e ∙ length-append (take at buf ++ new) (drop (at + n) buf)
-          ∙ whole (length (take at buf ++ new)) (length (drop (at + n) buf)) (length buf) h long-head (length-drop (at + n) buf) ∙ w .long }
+            ∙ whole (length (take at buf ++ new)) (length (drop (at + n) buf)) (length buf) h long-head (length-drop (at + n) buf) ∙ w .long;
+      }
     where
       long-head : length (take at buf ++ new) ≡ at + n
       long-head = head-long at buf new (omega (arith, q)) ∙ ap (λ (k : ℕ). at + k) q
+
       whole : (a b c : ℕ) → at + n ≤ c → a ≡ at + n → b ≡ c - (at + n) → a + b ≡ c
       whole a b c g p r = omega arith
 
@@ -208,8 +227,11 @@ pub record Rows {A : Type 0} (rows : ℕ → List A) (out₀ : List A) (m to j :
 module _ {A : Type 0} {rows : ℕ → List A} {out₀ : List A} {m : ℕ} where
   pub rows-start : Rows rows out₀ m 0 0 out₀
   rows-start =
-      record { low = omega arith; long = refl;
-      writing = subst (λ (i : ℕ). Writing (joined rows 0 m) out₀ 0 out₀ (joined rows 0 i)) (whole m) (start out₀ 0 (joined rows 0 m)) }
+      record {
+        low = omega arith;
+        long = refl;
+        writing = subst (λ (i : ℕ). Writing (joined rows 0 m) out₀ 0 out₀ (joined rows 0 i)) (whole m) (start out₀ 0 (joined rows 0 m));
+      }
     where
       whole : (a : ℕ) → a ≡ a - 0
       whole a = omega arith
@@ -227,3 +249,13 @@ module _ {A : Type 0} {rows : ℕ → List A} {out₀ : List A} {m : ℕ} where
   pub rows-end : {to j : ℕ} {out : List A} → Rows rows out₀ m to j out → m ≤ j → out ≡ joined rows 0 m ++ drop to out₀
   rows-end {to} {j} {out} r g =
       end (subst (λ (l : List A). Writing (joined rows 0 m) out₀ to out l) (joined-none rows j m g) (r .writing))
+
+  -- where it came to
+  pub rows-long : {to j : ℕ} {out : List A} → Rows rows out₀ m to j out → m ≤ j → to ≤ length out₀ → to ≡ length (joined rows 0 m)
+  rows-long {to} {j} {out} r g h =
+      omega (
+        arith,
+        length-take to out,
+        r .long,
+        ap length (sym (append-nil (take to out)) ∙ ap (λ (l : List A). take to out ++ l) (sym (joined-none rows j m g)) ∙ r .writing .front),
+      )

@@ -2,8 +2,12 @@
 use mathlib.Core.Path.{refl}
 use lib.Ieee.{ofInt, round}
 use Rattle.ieee.specs.Convert.{convert}
+use Rattle.window.specs.Window.{statsOf, gate}
+use Rattle.sample.specs.Bands.{bandOf}
+use Rattle.grid.specs.Step.{stepOf}
 use Rattle.readings.specs.Listing.{listing, AllHold}
 
 pub readings : AllHold listing
-unfolding ofInt round convert
-readings = (((refl, refl), (refl, refl)), (((refl, refl), (refl, refl)), tt))
+unfolding ofInt round convert statsOf gate bandOf stepOf
+readings =
+    (refl, (refl, (refl, (refl, (refl, (refl, (refl, (refl, (refl, (refl, (refl, (refl, (refl, (refl, (refl, (refl, (refl, (refl, (((refl, refl), (refl, refl)), (((refl, refl), (refl, refl)), tt))))))))))))))))))))

@@ -1,22 +1,45 @@
 -- Document 01, "Lids with known readings": each starred reading is a row of one listing.
+use mathlib.Core.Path.{_≡_}
 use mathlib.Core.Bool.{false}
-use mathlib.Core.List.{List, [], _∷_}
+use mathlib.Core.List.{List, [], _∷_, _++_, map}
 use Prim.Native.Nat.{ℕ}
 use lib.IntN.{pos}
 use lib.Ieee.{binary32, binary64, ofInt}
 use lib.Ieee.Exact.{HasValue}
 use Rattle.ieee.specs.Convert.{convert}
+use Rattle.window.specs.Readings.{windowReadings, Reads}
+use Rattle.window.specs.Readings as Window
+use Rattle.sample.specs.Bands.{bandOf}
+use Rattle.sample.proofs.Known.{BandRow, bands}
+use Rattle.grid.specs.Step.{stepOf}
+use Rattle.grid.specs.Grid.{firstX}
+use Rattle.grid.specs.Needed.{firstW}
+use Rattle.grid.proofs.Known.{StepRow, steps, FirstRow, firsts}
 
 pub data Reading : Type 0 where
+  -- a window, and its sum, gate and output
+  window : Window.Reading → Reading
+  -- a pixel sum, and its band
+  band : BandRow → Reading
+  -- a number of pixels, and the step at W = 8,192
+  step : StepRow → Reading
+  -- a row and a step, and the row's first x
+  first : FirstRow → Reading
   -- a whole number, and the one that it is rounded to in f32
   rounding : ℕ → ℕ → Reading
 
 -- what a row says
 abbrev pub Holds : Reading → Type 0
+Holds (window r) = Reads r
+Holds (band r) = bandOf (pos (r .sum)) ≡ r .band
+Holds (step r) = stepOf (r .pixels) firstW ≡ r .step
+Holds (first r) = firstX (r .row) (r .step) ≡ r .first
 Holds (rounding n r) = HasValue (ofInt binary32 (pos n)) false r 1 × HasValue (convert binary32 (ofInt binary64 (pos n))) false r 1
 
 abbrev pub listing : List Reading
-listing = rounding 16777217 16777216 ∷ rounding 16777219 16777220 ∷ []
+listing =
+    map window windowReadings
+    ++ (map band bands ++ (map step steps ++ (map first firsts ++ (rounding 16777217 16777216 ∷ rounding 16777219 16777220 ∷ []))))
 
 -- every row of a listing holds
 abbrev pub AllHold : List Reading → Type 0

@@ -1,6 +1,6 @@
 -- Columns of equal length in one slice: a store changes one column at one place. Assumes nothing.
 use mathlib.Core.Path.{_≡_, refl, sym, ap, _∙_, subst}
-use mathlib.Core.List.{List, [], _∷_, _++_, append-assoc, map}
+use mathlib.Core.List.{List, _++_, append-assoc, map}
 use Prim.Native.Nat.{ℕ, zero, suc, _+_, _-_, _*_, _≤_, _<_}
 use native.Mathlib.Nat.{mul-le-mul-right}
 use native.Mathlib.Omega.{arith}
@@ -8,7 +8,7 @@ use lib.Dec.{lit<}
 use lib.ListN.{length, getD, take, drop, set, length-append, length-map, List·getD-append, List·getD-map, length-set, length-take, length-drop, take-append-drop}
 use lib.Seq.{getD-append-add, take-set-lt, take-set-le, drop-set-lt, drop-set-add, drop-drop}
 use lib.IntN.{ℤ, pos}
-use Rattle.laws.specs.Lists.{from, joined}
+use Rattle.laws.specs.Lists.{joined}
 use Rattle.laws.proofs.Fill.{from-get}
 use Rattle.sample.proofs.Rows.{from-same}
 use Rattle.window.specs.declared.WindowStats.{WindowStats}
@@ -148,6 +148,9 @@ joined-at rows t e j (suc n) (suc c) k h g =
 joined-long : (rows : ℕ → List ℤ) (t : ℕ) → ((i : ℕ) → length (rows i) ≡ t) → (j n : ℕ) → length (joined rows j n) ≡ n * t
 joined-long rows t e j zero = omega arith
 joined-long rows t e j (suc n) = omega (arith, length-append (rows j) (joined rows (suc j) n), e j, joined-long rows t e (suc j) n)
+
+pub columns-count : (fs : List WindowStats) → length (columns fs) ≡ columnCount * length fs
+columns-count fs = joined-long (λ c. map (field c) fs) (length fs) (λ c. length-map fs (field c)) 0 columnCount
 
 -- no figures
 none : WindowStats

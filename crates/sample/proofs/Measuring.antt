@@ -1,13 +1,12 @@
 -- The windows of a pass measured row by row: each column holds the rows measured so far. Assumes nothing.
 use mathlib.Core.Path.{_≡_, refl, sym, ap, _∙_, subst}
-use mathlib.Core.List.{List, [], _∷_, _++_, map, append-nil}
-use Prim.Native.Nat.{ℕ, zero, suc, _+_, _-_, _*_, _≤_, _<_}
+use mathlib.Core.List.{List, [], _++_, map, append-nil}
+use Prim.Native.Nat.{ℕ, _+_, _-_, _*_, _≤_, _<_}
 use native.Mathlib.Omega.{arith}
-use lib.ListN.{length, take, drop, drop-of-length-le, length-map}
+use lib.ListN.{length, drop, drop-of-length-le, length-map}
 use lib.IntN.{ℤ}
 use Rattle.laws.specs.Lists.{from, joined}
 use Rattle.laws.proofs.Fill.{Rows, rows-start, rows-put, rows-end, length-from, joined-none}
-use Rattle.window.specs.declared.WindowStats.{WindowStats}
 use Rattle.grid.specs.Step.{stepOf}
 use Rattle.grid.specs.Grid.{Place, Sides, firstX, rowCount, rowOf, rowsOf, placesOf, totalOf}
 use Rattle.grid.proofs.Steps.{step-is, step-most}

@@ -6,7 +6,7 @@ use mathlib.Core.Logic.{_⊎_, inl, inr}
 use Prim.Native.Nat.{ℕ, zero, suc, _+_, _-_, _*_, _≤_, _<_}
 use native.Mathlib.Omega.{arith}
 use borrow.Author.Tests.{eq-eqb, ne-eqb, eqb-true, eqb-false, ltb-true, ltb-false}
-use lib.Dec.{eqb, ltb, lit<}
+use lib.Dec.{eqb, ltb}
 use lib.ListN.{length, getD, take, drop, set, length-append, length-map, length-set, take-append-drop}
 use lib.Seq.{take-add, drop-drop, getD-set-same, getD-set-other, drop-set-lt, drop-set-add, take-set-le}
 use lib.IntN.{ℤ, pos}

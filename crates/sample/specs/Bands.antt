@@ -1,7 +1,7 @@
 -- Bands: document 01, "Bands".
-use mathlib.Core.Bool.{Bool, cond, _&&_}
+use mathlib.Core.Bool.{cond, _&&_}
 use mathlib.Core.List.{List, [], _∷_}
-use Prim.Native.Nat.{ℕ, _+_, _/_}
+use Prim.Native.Nat.{ℕ, _/_}
 use lib.Dec.{leb, eqb}
 use lib.ListN.{length}
 use lib.IntN.{ℤ, pos, negsuc}

@@ -2,8 +2,7 @@
 ghost use mathlib.Core.Path.{_≡_};
 ghost use Prim.Native.Nat.{_+_, _*_, _<_, _≤_};
 ghost use lib.ListN.{length, set};
-ghost use lib.Ieee as Ieee;
-ghost use Rattle.grid.specs.Grid.{Sides, totalOf};
+ghost use Rattle.grid.specs.Grid.{totalOf};
 ghost use Rattle.sample.specs.Figures.{figureOf, figuresOf, Measurable};
 ghost use Rattle.sample.specs.Columns.{columnsIn, columnCount, figureIn, figuresIn, Stored, Filled, RowFits};
 ghost use Rattle.sample.specs.Bands.{bandOf, sampleOf};

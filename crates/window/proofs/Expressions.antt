@@ -6,6 +6,7 @@ use lib.IntN.{ℤ, pos, natAbs}
 use Rattle.laws.proofs.Ring.{Ex, v, k, _⊕_, _⊗_}
 use Rattle.laws.proofs.Machine.{Within}
 use Rattle.window.specs.Window.{Window, P, Term}
+use Rattle.window.proofs.Places.{_and_}
 
 -- the numbers, and the variable that stands for the one at (x, y)
 abbrev pub numbers : Window → List ℤ
@@ -39,8 +40,9 @@ bounds n = n ∷ n ∷ n ∷ n ∷ n ∷ n ∷ n ∷ n ∷ n ∷ n ∷ n ∷ n �
 
 pub within : (p : Window) (n : ℕ) → ((x y : ℕ) → x < 4 → y < 4 → natAbs (p x y) ≤ n) → Within (numbers p) (bounds n)
 within p n b =
-    (at′ 0 0 tt tt, (at′ 1 0 tt tt, (at′ 2 0 tt tt, (at′ 3 0 tt tt, (at′ 0 1 tt tt, (at′ 1 1 tt tt, (at′ 2 1 tt tt, (at′ 3 1 tt tt,
-    (at′ 0 2 tt tt, (at′ 1 2 tt tt, (at′ 2 2 tt tt, (at′ 3 2 tt tt, (at′ 0 3 tt tt, (at′ 1 3 tt tt, (at′ 2 3 tt tt, (at′ 3 3 tt tt, tt))))))))))))))))
+    at′ 0 0 tt tt and at′ 1 0 tt tt and at′ 2 0 tt tt and at′ 3 0 tt tt and at′ 0 1 tt tt and at′ 1 1 tt tt and at′ 2 1 tt tt and at′ 3 1 tt tt
+    and at′ 0 2 tt tt and at′ 1 2 tt tt and at′ 2 2 tt tt and at′ 3 2 tt tt and at′ 0 3 tt tt and at′ 1 3 tt tt and at′ 2 3 tt tt and at′ 3 3 tt tt
+    and tt
   where
     at′ : (x y : ℕ) → T (ltb x 4) → T (ltb y 4) → natAbs (p x y) ≤ n
     at′ x y s t = b x y (lit< s) (lit< t)

@@ -2,7 +2,7 @@
 -- components of what is left, all 0 for one surface at D = 400.
 use mathlib.Core.Path.{_≡_, sym, ap, _∙_, subst}
 use mathlib.Core.List.{List, [], _∷_}
-use Prim.Native.Nat.{ℕ, zero, suc, _+_, _-_, _*_, _≤_, _<_}
+use Prim.Native.Nat.{ℕ, zero, suc, _+_, _-_}
 use native.Mathlib.Omega.{arith}
 use lib.Dec.{T, ltb, le→leb, lit≤}
 use lib.IntN.{ℤ, pos, negsuc, _+ℤ_, _-ℤ_, _*ℤ_, +ℤ-idr, +ℤ-invr}
@@ -11,7 +11,7 @@ use Rattle.laws.proofs.Ring.{Ex, v, k, _⊕_, _⊖_, _⊗_, eval, ring, same}
 use Rattle.laws.proofs.Machine.{cond-ind}
 use Rattle.window.specs.Window.{Window, component, sq, weighted, gateTerms, gate}
 use Rattle.window.specs.Surface.{Surface, value, missed, Is400TimesLeastMisfit}
-use Rattle.window.specs.Squares.{squares}
+use Rattle.window.proofs.Places.{_and_}
 use Rattle.window.proofs.Expressions.{componentE}
 use Rattle.window.proofs.Weighted.{EachTerm, each-gated, weighted-same, weighted-zero, weighted-scaled, weighted-is, weightedℕ}
 use Rattle.window.proofs.Squares.{freeTerms, gate-and-free}
@@ -27,9 +27,9 @@ gate-left p d s =
     weighted-same (component (left p d s)) (λ i j. d *ℤ component p i j) gateTerms
     (each-gated (λ i j. sq (component (left p d s) i j) ≡ sq (d *ℤ component p i j))
     (λ i j u t g.
-      ap sq
-      (component-less p (value s) d i j ∙ ap (λ (z : ℤ). d *ℤ component p i j -ℤ z) (surface-ungated s i j u t g)
-      ∙ +ℤ-idr (d *ℤ component p i j))))
+    ap sq
+    (component-less p (value s) d i j ∙ ap (λ (z : ℤ). d *ℤ component p i j -ℤ z) (surface-ungated s i j u t g)
+    ∙ +ℤ-idr (d *ℤ component p i j))))
     ∙ weighted-scaled d (component p) gateTerms
 
 pub missed-is : (p : Window) (D : ℕ) (s : Surface)
@@ -89,8 +89,8 @@ module _ (p : Window) where
 
   none-free : EachTerm (λ i j. component (left p (pos 400) (nearest p)) i j ≡ pos 0) freeTerms
   none-free =
-      (none 3 3 (has 3 3 6 tt), (none 0 0 (has 0 0 0 tt), (none 1 0 (has 1 0 1 tt), (none 0 1 (has 0 1 2 tt), (none 1 1 (has 1 1 3 tt),
-      (none 2 0 (has 2 0 4 tt), (none 0 2 (has 0 2 5 tt), tt)))))))
+      none 3 3 (has 3 3 6 tt) and none 0 0 (has 0 0 0 tt) and none 1 0 (has 1 0 1 tt) and none 0 1 (has 0 1 2 tt)
+      and none 1 1 (has 1 1 3 tt) and none 2 0 (has 2 0 4 tt) and none 0 2 (has 0 2 5 tt) and tt
 
   pub reached : pos 400 *ℤ missed p 400 (nearest p) ≡ sq (pos 400) *ℤ gate p
   reached =

@@ -1,4 +1,5 @@
 pub mod Places
+pub mod Same
 pub mod Expressions
 pub mod Bounds
 pub mod Passes
@@ -7,5 +8,9 @@ pub mod Squares
 pub mod Linear
 pub mod Mirrors
 pub mod Least
+pub mod OneLeast
 pub mod Zero
 pub mod Most
+pub mod Figures
+pub mod Demand3
+pub mod Readings

@@ -1,12 +1,12 @@
 -- What mirroring, turning, the negative and an added surface do to each component; the gate, which sees squares of nine, is the same.
 use mathlib.Core.Path.{_≡_, ap, _∙_}
 use mathlib.Core.Bool.{cond}
-use mathlib.Core.List.{List, [], _∷_}
+use mathlib.Core.List.{[], _∷_}
 use Prim.Native.Nat.{ℕ, _+_, _<_}
 use lib.Dec.{T, eqb, eqb→eq}
 use lib.IntN.{ℤ, pos, _+ℤ_, _-ℤ_, _*ℤ_, +ℤ-idr}
 use Rattle.laws.proofs.Ring.{Ex, v, k, _⊖_, _⊗_, ring, same}
-use Rattle.window.specs.Window.{Window, component, sq, weighted, gateTerms, gate}
+use Rattle.window.specs.Window.{Window, component, sq, gateTerms, gate}
 use Rattle.window.specs.Surface.{Surface, value}
 use Rattle.window.specs.Mirrors.{across, down, turned, turnedBack, negative, added, sign}
 use Rattle.window.specs.Squares.{gated}
@@ -103,12 +103,12 @@ negative-same p =
     gate-same (negative p) p
     (each-gated (λ i j. sq (component (negative p) i j) ≡ sq (component p i j))
     (λ i j s t g.
-      ap sq (negative-component p i j s t ∙ ap (λ (n : ℕ). pos n -ℤ component p i j) (level-gated i j s t g))
-      ∙ ring (component p i j ∷ []) ((k (pos 0) ⊖ v 0) ⊗ (k (pos 0) ⊖ v 0)) (v 0 ⊗ v 0) tt))
+    ap sq (negative-component p i j s t ∙ ap (λ (n : ℕ). pos n -ℤ component p i j) (level-gated i j s t g))
+    ∙ ring (component p i j ∷ []) ((k (pos 0) ⊖ v 0) ⊗ (k (pos 0) ⊖ v 0)) (v 0 ⊗ v 0) tt))
 
 pub added-same : (s : Surface) (p : Window) → gate (added s p) ≡ gate p
 added-same s p =
     gate-same (added s p) p
     (each-gated (λ i j. sq (component (added s p) i j) ≡ sq (component p i j))
     (λ i j u t g.
-      ap sq (added-component s p i j ∙ ap (λ (z : ℤ). component p i j +ℤ z) (surface-ungated s i j u t g) ∙ +ℤ-idr (component p i j))))
+    ap sq (added-component s p i j ∙ ap (λ (z : ℤ). component p i j +ℤ z) (surface-ungated s i j u t g) ∙ +ℤ-idr (component p i j))))

@@ -1,13 +1,14 @@
--- What holds at 0, 1, 2 and 3 holds at every number below 4; and so for pairs.
-use mathlib.Core.Path.{_≡_, ap}
+-- What holds at 0, 1, 2 and 3 holds at every number below 4; and so for pairs of numbers.
 use mathlib.Core.Bool.{Bool, true, false, cond}
-use mathlib.Core.List.{List, [], _∷_}
 use Prim.Native.Nat.{ℕ, zero, suc, _<_}
 use native.Mathlib.Omega.{arith}
-use lib.Dec.{T, lit<}
-use lib.IntN.{ℤ}
-use Rattle.laws.proofs.Machine.{both, four}
-use Rattle.window.specs.Window.{Window, gate, statsOf, pixel}
+use lib.Dec.{T}
+use Rattle.laws.proofs.Machine.{both}
+
+-- one fact and the rest: a chain that ends in tt is a fact of each element of a list
+infixr 5 _and_
+abbrev pub _and_ : {A B : Type 0} → A → B → A × B
+a and b = (a, b)
 
 pub below4 : (Q : ℕ → Type 0) → Q 0 → Q 1 → Q 2 → Q 3 → (x : ℕ) → x < 4 → Q x
 below4 Q a b c d zero h = a
@@ -18,6 +19,12 @@ below4 Q a b c d (suc (suc (suc (suc n)))) h = absurd (beyond n h)
   where
     beyond : (n : ℕ) → suc (suc (suc (suc n))) < 4 → ⊥
     beyond n h = omega arith
+
+pub below4² : (Q : ℕ → ℕ → Type 0)
+    → Q 0 0 → Q 0 1 → Q 0 2 → Q 0 3 → Q 1 0 → Q 1 1 → Q 1 2 → Q 1 3 → Q 2 0 → Q 2 1 → Q 2 2 → Q 2 3 → Q 3 0 → Q 3 1 → Q 3 2 → Q 3 3
+    → (i j : ℕ) → i < 4 → j < 4 → Q i j
+below4² Q a b c d e f g h k l m n o p q r i j s =
+    below4 (λ i. (j : ℕ) → j < 4 → Q i j) (below4 (Q 0) a b c d) (below4 (Q 1) e f g h) (below4 (Q 2) k l m n) (below4 (Q 3) o p q r) i s j
 
 pub both-l : (a b : Bool) → T (both a b) → T a
 both-l true b t = tt
@@ -50,22 +57,3 @@ must false b t s = absurd s
 
 pub sixteen-if : (g f : ℕ → ℕ → Bool) → T (all4 (λ i. all4 (λ j. implies (g i j) (f i j)))) → (i j : ℕ) → i < 4 → j < 4 → T (g i j) → T (f i j)
 sixteen-if g f t i j p q s = must (g i j) (f i j) (sixteen (λ i j. implies (g i j) (f i j)) t i j p q) s
-
--- ---- a window's sixteen numbers as rows
-
-abbrev row : Window → ℕ → List ℤ
-row p y = p 0 y ∷ p 1 y ∷ p 2 y ∷ p 3 y ∷ []
-
-abbrev pub rows : Window → List (List ℤ)
-rows p = row p 0 ∷ row p 1 ∷ row p 2 ∷ row p 3 ∷ []
-
-pub rows-same : (p q : Window) → ((x y : ℕ) → x < 4 → y < 4 → p x y ≡ q x y) → rows p ≡ rows q
-rows-same p q e = four (each 0 (lit< tt)) (each 1 (lit< tt)) (each 2 (lit< tt)) (each 3 (lit< tt))
-  where
-    each : (y : ℕ) → y < 4 → row p y ≡ row q y
-    each y h = four (e 0 y (lit< tt) h) (e 1 y (lit< tt) h) (e 2 y (lit< tt) h) (e 3 y (lit< tt) h)
-
--- what is measured depends on the sixteen numbers alone
-pub stats-same : (p q : Window) → ((x y : ℕ) → x < 4 → y < 4 → p x y ≡ q x y) → statsOf p ≡ statsOf q
-unfolding statsOf gate
-stats-same p q e = ap (λ (m : List (List ℤ)). statsOf (pixel m)) (rows-same p q e)

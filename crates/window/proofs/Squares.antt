@@ -3,9 +3,9 @@ use mathlib.Core.Path.{_≡_, refl, _∙_}
 use mathlib.Core.Bool.{cond, _&&_}
 use mathlib.Core.List.{List, [], _∷_}
 use Prim.Native.Nat.{ℕ, _+_, _*_, _<_}
-use lib.Dec.{T, eqb, eqb→eq}
-use lib.IntN.{ℤ, pos, _+ℤ_, _*ℤ_}
-use Rattle.laws.proofs.Ring.{Ex, k, _⊕_, _⊗_, ring, same}
+use lib.Dec.{eqb, eqb→eq}
+use lib.IntN.{pos, _+ℤ_, _*ℤ_}
+use Rattle.laws.proofs.Ring.{Ex, k, _⊕_, _⊗_, ring}
 use Rattle.window.specs.Window.{Window, P, sum4, sq, component, Term, term, weighted, gateTerms, gate}
 use Rattle.window.specs.Squares.{norm2, scale, gated, squares, weightedSquares}
 use Rattle.window.proofs.Places.{below4, sixteen}

@@ -1,10 +1,10 @@
 -- Sums of weighted squares: not negative, settled by the squares, scaled by a square.
 use mathlib.Core.Path.{_≡_, refl, sym, ap, _∙_}
-use mathlib.Core.Bool.{Bool, true, false}
+use mathlib.Core.Bool.{Bool, true}
 use mathlib.Core.List.{List, [], _∷_}
 use Prim.Native.Nat.{ℕ, _+_, _*_, _<_}
 use lib.Dec.{T, ltb, ltb→lt}
-use lib.IntN.{ℤ, pos, negsuc, natAbs, _+ℤ_, _*ℤ_, *ℤ-zero, *ℤ-comm}
+use lib.IntN.{ℤ, pos, negsuc, natAbs, _+ℤ_, _*ℤ_, *ℤ-zero}
 use Rattle.laws.proofs.Ring.{v, _⊕_, _⊗_, ring}
 use Rattle.laws.proofs.Machine.{both}
 use Rattle.window.specs.Window.{Term, sq, weighted, gateTerms}
@@ -35,9 +35,9 @@ pub each-gated : (Q : ℕ → ℕ → Type 0) → ((i j : ℕ) → i < 4 → j <
 each-gated Q h =
     each-term Q gated4
     (λ i j t.
-      let r = both-r (ltb i 4) (both (ltb j 4) (gated i j)) t in
-      h i j (ltb→lt i 4 (both-l (ltb i 4) (both (ltb j 4) (gated i j)) t)) (ltb→lt j 4 (both-l (ltb j 4) (gated i j) r))
-      (both-r (ltb j 4) (gated i j) r))
+    let r = both-r (ltb i 4) (both (ltb j 4) (gated i j)) t in
+    h i j (ltb→lt i 4 (both-l (ltb i 4) (both (ltb j 4) (gated i j)) t)) (ltb→lt j 4 (both-l (ltb j 4) (gated i j) r))
+    (both-r (ltb j 4) (gated i j) r))
     gateTerms tt
 
 -- ---- the sums
@@ -59,7 +59,7 @@ weighted-scaled d c [] = sym (*ℤ-zero (sq d))
 weighted-scaled d c (t ∷ ts) =
     ap (λ (z : ℤ). pos (t .weight) *ℤ sq (d *ℤ c (t .i) (t .j)) +ℤ z) (weighted-scaled d c ts)
     ∙ ring (d ∷ pos (t .weight) ∷ c (t .i) (t .j) ∷ weighted ts c ∷ [])
-      (v 1 ⊗ (v 0 ⊗ v 2 ⊗ (v 0 ⊗ v 2)) ⊕ v 0 ⊗ v 0 ⊗ v 3) (v 0 ⊗ v 0 ⊗ (v 1 ⊗ (v 2 ⊗ v 2) ⊕ v 3)) tt
+    (v 1 ⊗ (v 0 ⊗ v 2 ⊗ (v 0 ⊗ v 2)) ⊕ v 0 ⊗ v 0 ⊗ v 3) (v 0 ⊗ v 0 ⊗ (v 1 ⊗ (v 2 ⊗ v 2) ⊕ v 3)) tt
 
 -- ---- they are not negative
 

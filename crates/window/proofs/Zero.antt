@@ -6,10 +6,10 @@ use Prim.Native.Nat.{ℕ, zero, suc, _+_, _*_, _<_}
 use native.Mathlib.Omega.{arith}
 use lib.IntN.{ℤ, pos, negsuc, natAbs, _+ℤ_, _-ℤ_, _*ℤ_, +ℤ-idl, +ℤ-invr, -ℤ-+ℤ-cancel}
 use Rattle.laws.proofs.Machine.{abs-mul}
-use Rattle.window.specs.Window.{Window, sum4, sq, gate, statsOf}
-use Rattle.window.specs.declared.WindowStats.{WindowStats}
+use Rattle.window.specs.Window.{Window, sum4, sq, gate}
 use Rattle.window.specs.Surface.{Surface, value, missed, Is400Times}
-use Rattle.window.proofs.Places.{below4, stats-same}
+use Rattle.window.proofs.Places.{below4}
+use Rattle.window.proofs.Same.{gate-alike}
 use Rattle.window.proofs.Weighted.{sq-is}
 use Rattle.window.proofs.Least.{left, gate-left, nearest, reached}
 
@@ -47,8 +47,10 @@ sum-zero r h x y p q =
   where
     row : ℕ → ℕ
     row y = sumℕ (λ x. sqℕ (r x y))
+
     sum-is : sum4 (λ y. sum4 (λ x. sq (r x y))) ≡ pos (sumℕ row)
     sum-is = rw (row-is (λ x. r x 0), row-is (λ x. r x 1), row-is (λ x. r x 2), row-is (λ x. r x 3))
+
     all : sumℕ row ≡ 0
     all = ap natAbs (sym sum-is ∙ h)
 
@@ -61,20 +63,21 @@ zero-difference : (a b : ℤ) → b -ℤ a ≡ pos 0 → a ≡ b
 zero-difference a b h = sym (sym (-ℤ-+ℤ-cancel b a) ∙ ap (λ (z : ℤ). z +ℤ a) h ∙ +ℤ-idl a)
 
 from-surface : (p : Window) (s : Surface) → Is400Times s p → gate p ≡ pos 0
-unfolding gate statsOf
+unfolding gate
 from-surface p s h =
     zero-times 159999 (gate p)
     (sym (gate-left p (pos 400) s)
-    ∙ ap (λ (f : WindowStats). f .gate)
-      (stats-same (left p (pos 400) s) (λ x y. pos 0) (λ x y u t. difference-zero (value s x y) (pos 400 *ℤ p x y) (h x y u t))))
+    ∙ gate-alike (left p (pos 400) s) (λ x y. pos 0) (λ x y u t. difference-zero (value s x y) (pos 400 *ℤ p x y) (h x y u t)))
 
 none-missed : (p : Window) → gate p ≡ pos 0 → sum4 (λ y. sum4 (λ x. sq (left p (pos 400) (nearest p) x y))) ≡ pos 0
 unfolding missed
 none-missed p g = zero-times 399 (missed p 400 (nearest p)) (reached p ∙ ap (λ (z : ℤ). sq (pos 400) *ℤ z) g)
 
 pub gate-zero : (p : Window) → (gate p ≡ pos 0) ↔ ((s : Surface) × Is400Times s p)
-gate-zero p =
-    (λ g.
-      (nearest p,
-      λ x y u t. zero-difference (value (nearest p) x y) (pos 400 *ℤ p x y) (sum-zero (left p (pos 400) (nearest p)) (none-missed p g) x y u t)),
-    λ h. from-surface p (h .0) (h .1))
+gate-zero p = (
+  λ g. (
+    nearest p,
+    λ x y u t. zero-difference (value (nearest p) x y) (pos 400 *ℤ p x y) (sum-zero (left p (pos 400) (nearest p)) (none-missed p g) x y u t),
+  ),
+  λ h. from-surface p (h .0) (h .1),
+)

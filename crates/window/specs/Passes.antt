@@ -30,6 +30,13 @@ poly4Column m x = poly4Of (pixel m x 0) (pixel m x 1) (pixel m x 2) (pixel m x 3
 abbrev pub poly4Down : List (List ℤ) → List (List ℤ)
 poly4Down m = transposed (poly4Column m 0 ∷ poly4Column m 1 ∷ poly4Column m 2 ∷ poly4Column m 3 ∷ [])
 
+-- the gate's weights, of six components and of (2, 2)
+abbrev pub cross : ℤ
+cross = pos 5
+
+abbrev pub middle : ℤ
+middle = pos 25
+
 abbrev pub weighOf : ℤ → ℤ → ℤ → ℤ → ℤ → ℤ → ℤ → ℤ → ℤ → ℤ
 weighOf c12 c21 c23 c32 c30 c03 c22 c13 c31 =
-    pos 5 *ℤ (sq c12 +ℤ sq c21 +ℤ sq c23 +ℤ sq c32 +ℤ sq c30 +ℤ sq c03) +ℤ pos 25 *ℤ sq c22 +ℤ sq c13 +ℤ sq c31
+    cross *ℤ (sq c12 +ℤ sq c21 +ℤ sq c23 +ℤ sq c32 +ℤ sq c30 +ℤ sq c03) +ℤ middle *ℤ sq c22 +ℤ sq c13 +ℤ sq c31

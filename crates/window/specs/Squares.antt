@@ -1,6 +1,6 @@
 -- The squared lengths of the four rows of weights, and the weight that they give each component.
 use mathlib.Core.Bool.{Bool, not, _&&_}
-use mathlib.Core.List.{List, [], _∷_}
+use mathlib.Core.List.{[], _∷_}
 use Prim.Native.Nat.{ℕ, _+_, _*_, _/_}
 use lib.Dec.{eqb, leb}
 use lib.IntN.{ℤ, pos, _*ℤ_}

@@ -77,6 +77,10 @@ gateTerms =
 unfoldable pub gate : Window → ℤ
 gate p = weighted gateTerms (component p)
 
+-- what the gate never exceeds
+abbrev pub gateMost : ℕ
+gateMost = 104040000
+
 unfoldable pub statsOf : Window → WindowStats
 statsOf p = record { sum = component p 0 0; gate = gate p; op = component p 3 3 }
 

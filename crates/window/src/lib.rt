@@ -33,7 +33,12 @@ fn row(img: &[u8], at: usize) -> [i32; 4]
     requires { ⌜ at + 4 ≤ length (now img) ⌝ }
     ensures { λ r. ⌜ r ≡ rowAt (now (img .entry)) at ⌝ }
 {
-    [img[at] as i32, img[at + 1] as i32, img[at + 2] as i32, img[at + 3] as i32]
+    [
+        img[at] as i32,
+        img[at + 1] as i32,
+        img[at + 2] as i32,
+        img[at + 3] as i32,
+    ]
 }
 
 // The window px[y][x]: the polynomials down the columns, then across. c[i][j] is component (i, j).
@@ -44,20 +49,45 @@ pub fn window_stats(px: [[i32; 4]; 4]) -> WindowStats
     let d = poly4_down(px);
     let t = transpose(d);
     let c = poly4_down(t);
-    let gate = weigh(c[1][2], c[2][1], c[2][3], c[3][2], c[3][0], c[0][3], c[2][2], c[1][3], c[3][1]);
+    let sum = c[0][0];
+    let gate = weigh(
+        c[1][2],
+        c[2][1],
+        c[2][3],
+        c[3][2],
+        c[3][0],
+        c[0][3],
+        c[2][2],
+        c[1][3],
+        c[3][1],
+    );
+    let op = c[3][3];
     WindowStats {
-        sum: c[0][0],
+        sum: sum,
         gate: gate,
-        op: c[3][3],
+        op: op,
     }
 }
 
 // The gate's weighted squares.
-fn weigh(c12: i32, c21: i32, c23: i32, c32: i32, c30: i32, c03: i32, c22: i32, c13: i32, c31: i32) -> i32
+fn weigh(
+    c12: i32,
+    c21: i32,
+    c23: i32,
+    c32: i32,
+    c30: i32,
+    c03: i32,
+    c22: i32,
+    c13: i32,
+    c31: i32,
+) -> i32
     requires { ⌜ Each (Small 4080) (c12 ∷ c21 ∷ c23 ∷ c32 ∷ c30 ∷ c03 ∷ c22 ∷ []) × Each (Small 8160) (c13 ∷ c31 ∷ []) ⌝ }
     ensures { λ r. ⌜ r ≡ weighOf c12 c21 c23 c32 c30 c03 c22 c13 c31 ⌝ }
 {
-    5 * (c12 * c12 + c21 * c21 + c23 * c23 + c32 * c32 + c30 * c30 + c03 * c03) + 25 * (c22 * c22) + c13 * c13 + c31 * c31
+    5 * (c12 * c12 + c21 * c21 + c23 * c23 + c32 * c32 + c30 * c30 + c03 * c03)
+        + 25 * (c22 * c22)
+        + c13 * c13
+        + c31 * c31
 }
 
 // The four polynomials over four values.
@@ -65,7 +95,12 @@ fn poly4(a: i32, b: i32, c: i32, d: i32) -> [i32; 4]
     requires { ⌜ Each (Small 4080) (a ∷ b ∷ c ∷ d ∷ []) ⌝ }
     ensures { λ r. ⌜ r ≡ poly4Of a b c d ⌝ }
 {
-    [a + b + c + d, 3 * (d - a) + c - b, a - b - c + d, a - 3 * b + 3 * c - d]
+    [
+        a + b + c + d,
+        3 * (d - a) + c - b,
+        a - b - c + d,
+        a - 3 * b + 3 * c - d,
+    ]
 }
 
 // The polynomials down column x.

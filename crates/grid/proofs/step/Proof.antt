@@ -1,5 +1,5 @@
 -- `grid::step` meets its contract: no number below s reaches the pixels, so the first that does is the step.
-use Prim.Native.Nat.{ℕ, _*_, _-_, _≤_}
+use Prim.Native.Nat.{_*_, _-_, _≤_}
 use native.Mathlib.Nat.{mul-le-mul}
 use native.Mathlib.Omega.{arith}
 use Rattle.grid.proofs.Steps.{few, Searching, begun, onward, found, small, product}

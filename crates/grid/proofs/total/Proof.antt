@@ -1,13 +1,12 @@
 -- `grid::total` meets its contract: what is counted and the rows still to count make up T.
-use mathlib.Core.Path.{_≡_, sym, ap, _∙_, subst}
-use Prim.Native.Nat.{ℕ, _+_, _-_, _*_, _≤_, _<_}
-use native.Mathlib.Nat.{mul-le-mul}
+use mathlib.Core.Path.{_≡_, sym, ap, subst}
+use Prim.Native.Nat.{ℕ, _+_, _-_, _*_, _≤_}
 use native.Mathlib.Omega.{arith}
 use lib.ListN.{length}
 use Rattle.laws.specs.Lists.{joined}
 use Rattle.laws.proofs.Fill.{joined-none}
 use Rattle.grid.specs.Step.{stepOf}
-use Rattle.grid.specs.Grid.{Place, rowOf, rowsOf, totalOf}
+use Rattle.grid.specs.Grid.{rowOf, rowsOf, totalOf}
 use Rattle.grid.proofs.Steps.{few, step-is, step-most}
 use Rattle.grid.proofs.Counts.{count-most}
 use Rattle.grid.proofs.Places.{total-more, total-by, total-most}

@@ -1,6 +1,7 @@
 -- `sample::collect` meets its contract: the figures are read back from the columns as they were laid.
-use mathlib.Core.Path.{_≡_, sym, ap, _∙_}
+use mathlib.Core.Path.{sym, ap, _∙_}
 use mathlib.Core.List.{List}
+use native.Mathlib.Omega.{arith}
 use lib.ListN.{length-map}
 use denote.Ref.{now}
 use Rattle.window.specs.declared.WindowStats.{WindowStats}
@@ -9,24 +10,30 @@ use Rattle.sample.specs.Figures.{figureAt, figuresOf}
 use Rattle.sample.specs.Bands.{sampleOf}
 use Rattle.sample.specs.Laid.{laidIn}
 use Rattle.sample.proofs.Columns.{read-back}
-use borrow.Author.Needs.{needs}
 use Rattle.sample.proofs.collect.Statement.{statement}
 use Rattle.sample.proofs.collect.Tie as tie
 
 measure-requires : tie.Need-measure-requires
-measure-requires c κs = search needs
+measure-requires c κs = c .before .before .before .pre .measurable
 
 count-requires : tie.Need-count-requires
-count-requires c κs = search needs
+count-requires c κs = omega (arith, c .before .before .measure .ensures .0, c .before .before .measure .kept .1 .1 .1 .1 .0, c .before .before .before .before .before .before .pre .measurable .columns)
 
 scatter-requires : tie.Need-scatter-requires
-scatter-requires c κs = search needs
+scatter-requires c κs =
+    let s = c .before .before .before .before .before .before .before .before .before in
+    let m = c .before .before .before .before .before .measure in
+    record {
+      columns = omega (arith, m .ensures .0, m .kept .1 .1 .1 .1 .0, s .pre .measurable .columns);
+      counted = c .before .before .count .ensures;
+      room = omega (arith, m .ensures .0, s .pre .room);
+    }
 
 same-length : tie.Need-same-length
-same-length c = search needs
+same-length c = c .before .before .before .before .before .before .before .before .measure .kept .1 .1 .1 .1 .0
 
 same-length-2 : tie.Need-same-length-2
-same-length-2 c = search needs
+same-length-2 c = c .before .before .scatter .kept .1 .1 .1 .0
 
 returns : tie.Need-returns
 returns c =

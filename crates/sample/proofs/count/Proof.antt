@@ -1,15 +1,14 @@
 -- `sample::count` meets its contract: five counts in one pass.
-use mathlib.Core.Path.{_≡_, refl, sym, ap, _∙_}
+use mathlib.Core.Path.{_≡_, refl, ap, _∙_}
 use mathlib.Core.List.{List}
-use Prim.Native.Nat.{ℕ, _+_, _-_, _≤_, _<_}
+use Prim.Native.Nat.{ℕ, _+_, _-_, _≤_}
 use native.Mathlib.Omega.{arith}
 use lib.Dec.{eqb}
-use lib.IntN.{ℤ, pos}
+use lib.IntN.{ℤ}
 use mir.Val.{boolByte}
 use denote.Ref.{now}
 use Rattle.laws.proofs.Machine.{held-of}
 use Rattle.window.specs.declared.WindowStats.{WindowStats}
-use Rattle.sample.specs.declared.Sample.{Sample}
 use Rattle.sample.specs.Columns.{figuresIn}
 use Rattle.sample.specs.Bands.{rail, bandOf, countOf, sampleOf}
 use Rattle.sample.proofs.Counting.{Counted, count-start, count-turn, count-end, count-low}

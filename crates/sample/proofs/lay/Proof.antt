@@ -1,61 +1,61 @@
 -- `sample::lay` meets its contract.
 use mathlib.Core.Path.{_≡_, ap, _∙_}
 use Prim.Native.Nat.{_+_}
-use lib.ListN.{set}
+use lib.ListN.{set, length-set}
 use lib.Ieee as Ieee
 use lib.Ieee.{Float, binary32}
 use denote.Ref.{now}
 use Rattle.laws.proofs.Machine.{held-of}
 use Rattle.sample.specs.Columns.{figureIn}
 use Rattle.sample.specs.Laid.{gate32, square32}
-use borrow.Author.Needs.{needs}
+use native.Mathlib.Omega.{arith}
 use Rattle.sample.proofs.lay.Statement.{statement}
 use Rattle.sample.proofs.lay.Tie as tie
 
 add-gate : tie.Need-add-gate
-add-gate c = search needs
+add-gate c = omega arith
 
 mul-gate : tie.Need-mul-gate
-mul-gate c = search needs
+mul-gate c = omega arith
 
 shared-slice-copy-out-gate : tie.Need-shared-slice-copy-out-gate
-shared-slice-copy-out-gate c = search needs
+shared-slice-copy-out-gate c = omega arith
 
 mul-op : tie.Need-mul-op
-mul-op c = search needs
+mul-op c = omega arith
 
 add-op : tie.Need-add-op
-add-op c = search needs
+add-op c = omega arith
 
 mul-op-2 : tie.Need-mul-op-2
-mul-op-2 c = search needs
+mul-op-2 c = omega arith
 
 shared-slice-copy-out-op : tie.Need-shared-slice-copy-out-op
-shared-slice-copy-out-op c = search needs
+shared-slice-copy-out-op c = omega arith
 
 nearest-i32-to-f32-requires : tie.Need-nearest-i32-to-f32-requires
-nearest-i32-to-f32-requires c κs = search needs
+nearest-i32-to-f32-requires c κs = tt
 
 nearest-i32-to-f32-requires-2 : tie.Need-nearest-i32-to-f32-requires-2
-nearest-i32-to-f32-requires-2 c κs = search needs
+nearest-i32-to-f32-requires-2 c κs = tt
 
 mul-floats : tie.Need-mul-floats
-mul-floats c = search needs
+mul-floats c = omega arith
 
 slice-write-floats : tie.Need-slice-write-floats
-slice-write-floats c = search needs
+slice-write-floats c = omega arith
 
 add-floats : tie.Need-add-floats
-add-floats c = search needs
+add-floats c = omega arith
 
 mul-floats-2 : tie.Need-mul-floats-2
-mul-floats-2 c = search needs
+mul-floats-2 c = omega arith
 
 slice-write-floats-2 : tie.Need-slice-write-floats-2
-slice-write-floats-2 c = search needs
+slice-write-floats-2 c = simp length-set (omega arith)
 
 same-length : tie.Need-same-length
-same-length c = search needs
+same-length c = simp length-set
 
 returns : tie.Need-returns
 returns c =

@@ -7,7 +7,6 @@ use lib.ListN.{length, drop}
 use lib.IntN.{ℤ}
 use denote.Ref.{now}
 use Rattle.laws.proofs.Fill.{Row, row-start, row-put, row-end}
-use Rattle.window.specs.declared.WindowStats.{WindowStats}
 use Rattle.sample.specs.Figures.{figureOf}
 use Rattle.sample.specs.Columns.{columnCount, field, column}
 use Rattle.sample.proofs.Columns.{column-long}

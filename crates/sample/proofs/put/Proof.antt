@@ -4,39 +4,38 @@ use lib.ListN.{length-set}
 use denote.Ref.{now}
 use Rattle.laws.proofs.Machine.{held-of}
 use Rattle.sample.proofs.Columns.{stored}
-use borrow.Author.Needs.{needs}
 use Rattle.sample.proofs.put.Statement.{statement}
 use Rattle.sample.proofs.put.Tie as tie
 
 mul-sum : tie.Need-mul-sum
-mul-sum c = search needs
+mul-sum c = omega arith
 
 slice-set-from-sum : tie.Need-slice-set-from-sum
-slice-set-from-sum c = search needs
+slice-set-from-sum c = omega arith
 
 add-gate : tie.Need-add-gate
-add-gate c = search needs
+add-gate c = omega arith
 
 mul-gate : tie.Need-mul-gate
-mul-gate c = search needs
+mul-gate c = omega arith
 
 slice-set-from-gate : tie.Need-slice-set-from-gate
 slice-set-from-gate c = simp length-set (omega arith)
 
 mul-op : tie.Need-mul-op
-mul-op c = search needs
+mul-op c = omega arith
 
 add-op : tie.Need-add-op
-add-op c = search needs
+add-op c = omega arith
 
 mul-op-2 : tie.Need-mul-op-2
-mul-op-2 c = search needs
+mul-op-2 c = omega arith
 
 slice-set-from-op : tie.Need-slice-set-from-op
 slice-set-from-op c = simp length-set (omega arith)
 
 same-length : tie.Need-same-length
-same-length c = search needs
+same-length c = simp length-set
 
 returns : tie.Need-returns
 returns c =

@@ -2,16 +2,15 @@
 use mathlib.Core.Path.{_≡_, refl, sym, ap, _∙_, subst}
 use mathlib.Core.List.{List, [], _∷_}
 use mathlib.Core.Logic.{⊎-elim}
-use Prim.Native.Nat.{ℕ, zero, suc, _+_, _-_, _*_, _≤_, _<_}
+use Prim.Native.Nat.{ℕ, _+_, _-_, _*_, _≤_, _<_}
 use native.Mathlib.Omega.{arith}
 use lib.ListN.{length, getD, set}
 use lib.IntN.{ℤ, pos}
 use lib.Ieee.{Float}
 use denote.Ref.{now}
 use Rattle.laws.proofs.Machine.{held-of}
-use Rattle.sample.specs.declared.Sample.{Sample}
-use Rattle.sample.specs.Columns.{columnCount, figureIn, figuresIn}
-use Rattle.sample.specs.Bands.{rail, bandOf, countOf, keptOf, sampleOf}
+use Rattle.sample.specs.Columns.{figureIn, figuresIn}
+use Rattle.sample.specs.Bands.{rail, bandOf, keptOf}
 use Rattle.sample.specs.Laid.{gate32, square32}
 use Rattle.sample.proofs.Counting.{Counts, counts}
 use Rattle.sample.proofs.Scattering.{Scattering, starts, kept-by, kept-room, place-kept, scatter-start, scatter-hit, scatter-miss, scatter-end}
@@ -72,7 +71,7 @@ mul-i : tie.Need-mul-i Inv-loop μ-loop
 mul-i c = omega (arith, c .if1 .taken)
 
 array-read-i : tie.Need-array-read-i Inv-loop μ-loop
-array-read-i c = c .if1 .taken
+array-read-i c = omega (arith, c .if1 .taken)
 
 -- the band of window k, from what `band` ensures
 band-is : (c : tie.After-band Inv-loop μ-loop) → bandOf (getD (now (c .before .before .before .before .before .args .ints)) (c .before .before .before .loop .k) (pos 0)) ≡ c .band .result
@@ -80,7 +79,7 @@ band-is c = ap bandOf (sym (held-of (c .before .sum .given))) ∙ sym (c .band .
 
 -- the place for it
 place : (c : tie.Then1 Inv-loop μ-loop) → getD (c .before .before .before .before .loop .next) (c .before .band .result) 0 < keptOf (figuresIn (c .before .before .before .before .before .before .args .t) (now (c .before .before .before .before .before .before .args .ints)))
-place c = place-kept (c .before .before .before .before .loop .inv .gates) (c .before .band .result) (c .if1 .taken) (c .before .before .before .loop-test .taken) (band-is (c .before))
+place c = place-kept (c .before .before .before .before .loop .inv .gates) (c .before .band .result) (omega (arith, c .if1 .taken)) (c .before .before .before .loop-test .taken) (band-is (c .before))
 
 add-lay : tie.Need-add-lay Inv-loop μ-loop
 add-lay c = omega (arith, sum-is (c .before .before .before .before .before .before .before), space (c .before .before .before .before .before .before .before))
@@ -97,7 +96,7 @@ mul-next : tie.Need-mul-next Inv-loop μ-loop
 mul-next c = omega (arith, c .before .before .before .before .if1 .taken)
 
 array-write-next : tie.Need-array-write-next Inv-loop μ-loop
-array-write-next c = c .before .before .before .before .if1 .taken
+array-write-next c = omega (arith, c .before .before .before .before .if1 .taken)
 
 add-k : tie.Need-add-k Inv-loop μ-loop
 add-k c = omega (arith, c .before .before .before .loop-test .taken)
@@ -119,7 +118,7 @@ loop-again c =
     let k = c .before .before .before .loop-test .taken in
     ⊎-elim
     (λ w. moved (w .5 ∙ w .2 .ensures ∙ ap (λ (m : ℕ). set (set (l .loop .floats) n (gate32 f)) (m + 1 + n) (square32 f)) (sum-is s)) (w .6)
-    (scatter-hit i k (c .before .band .result) (w .0 .taken) (band-is (c .before)) (omega (arith, space s)) refl refl))
+    (scatter-hit i k (c .before .band .result) (omega (arith, w .0 .taken)) (band-is (c .before)) (omega (arith, space s)) refl refl))
     (λ w. moved (w .1) (w .2) (scatter-miss i k (subst (λ (n : ℕ). rail ≤ n) (sym (band-is (c .before))) (w .0 .left))))
     (c .if1 .came)
 

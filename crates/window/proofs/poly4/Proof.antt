@@ -4,6 +4,7 @@ use Prim.Native.Nat.{ℕ}
 use lib.IntN.{ℤ, pos}
 use Rattle.laws.proofs.Ring.{v, k, _⊕_, _⊖_, _⊗_}
 use Rattle.laws.proofs.Machine.{Within, fits, held-is, four}
+use Rattle.window.proofs.Places.{_and_}
 use Rattle.window.proofs.poly4.Statement.{statement}
 use Rattle.window.proofs.poly4.Tie as tie
 
@@ -14,7 +15,7 @@ abbrev ρ : tie.Start → List ℤ
 ρ c = c .args .a ∷ c .args .b ∷ c .args .c ∷ c .args .d ∷ []
 
 in-range : (c : tie.Start) → Within (ρ c) β
-in-range c = (c .pre .0 .small, (c .pre .1 .0 .small, (c .pre .1 .1 .0 .small, (c .pre .1 .1 .1 .0 .small, tt))))
+in-range c = c .pre .0 .small and c .pre .1 .0 .small and c .pre .1 .1 .0 .small and c .pre .1 .1 .1 .0 .small and tt
 
 add-t5 : tie.Need-add-t5
 add-t5 c = fits (ρ c) β (in-range c) (v 0 ⊕ v 1) tt

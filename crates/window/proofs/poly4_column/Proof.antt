@@ -1,6 +1,5 @@
 -- `window::poly4_column` meets its contract: what a read hands on is the element itself, and so as small.
 use mathlib.Core.Path.{_≡_, _∙_, sym, subst}
-use mathlib.Core.List.{List}
 use Prim.Native.Nat.{ℕ, _<_}
 use native.Mathlib.Omega.{arith}
 use borrow.Author.Needs.{needs}
@@ -10,6 +9,7 @@ use lib.Signed.{mag}
 use Rattle.laws.proofs.Machine.{held, held-of, each²-at}
 use Rattle.window.specs.Window.{pixel}
 use Rattle.window.specs.Passes.{Small, poly4Of}
+use Rattle.window.proofs.Places.{_and_}
 use Rattle.window.proofs.poly4_column.Statement.{statement}
 use Rattle.window.proofs.poly4_column.Tie as tie
 
@@ -69,10 +69,8 @@ index-2-poly4-4 c = omega arith
 
 poly4-requires : tie.Need-poly4-requires
 poly4-requires c κs =
-    (still (c .before .before .before .poly4-arg .given) (low 0 c),
-    (still (c .before .before .poly4-arg2 .given) (low 1 c),
-    (still (c .before .poly4-arg3 .given) (low 2 c),
-    (still (c .poly4-arg4 .given) (low 3 c), tt))))
+    still (c .before .before .before .poly4-arg .given) (low 0 c) and still (c .before .before .poly4-arg2 .given) (low 1 c)
+    and still (c .before .poly4-arg3 .given) (low 2 c) and still (c .poly4-arg4 .given) (low 3 c) and tt
 
 returns : tie.Need-returns
 returns c =
@@ -80,7 +78,7 @@ returns c =
     let x = c .before .before .before .before .before .args .x in
     c .poly4 .ensures
     ∙ same (pixel m x 0) (pixel m x 1) (pixel m x 2) (pixel m x 3) (c .before .before .before .before .poly4-arg .given) (c .before .before .before .poly4-arg2 .given)
-      (c .before .before .poly4-arg3 .given) (c .before .poly4-arg4 .given)
+    (c .before .before .poly4-arg3 .given) (c .before .poly4-arg4 .given)
 
 pub poly4-column-spec : {M : Type 1} → statement M
 poly4-column-spec =

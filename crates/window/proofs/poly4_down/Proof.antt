@@ -25,8 +25,8 @@ returns : tie.Need-returns
 returns c =
     c .transpose .ensures
     ∙ ap transposed
-      (four (c .before .before .before .before .poly4-column .ensures) (c .before .before .before .poly4-column2 .ensures)
-      (c .before .before .poly4-column3 .ensures) (c .before .poly4-column4 .ensures))
+    (four (c .before .before .before .before .poly4-column .ensures) (c .before .before .before .poly4-column2 .ensures)
+    (c .before .before .poly4-column3 .ensures) (c .before .poly4-column4 .ensures))
 
 pub poly4-down-spec : {M : Type 1} → statement M
 poly4-down-spec =

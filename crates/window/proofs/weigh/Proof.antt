@@ -1,9 +1,11 @@
 -- `window::weigh` meets its contract: each step is an expression over values of magnitude at most 4,080, two of them 8,160.
 use mathlib.Core.List.{List, [], _∷_}
 use Prim.Native.Nat.{ℕ}
-use lib.IntN.{ℤ, pos}
+use lib.IntN.{ℤ}
 use Rattle.laws.proofs.Ring.{Ex, v, k, _⊕_, _⊗_}
 use Rattle.laws.proofs.Machine.{Within, fits, held-is}
+use Rattle.window.specs.Passes.{cross, middle}
+use Rattle.window.proofs.Places.{_and_}
 use Rattle.window.proofs.weigh.Statement.{statement}
 use Rattle.window.proofs.weigh.Tie as tie
 
@@ -19,8 +21,8 @@ in-range : (c : tie.Start) → Within (ρ c) β
 in-range c =
     let b = c .pre .0 in
     let d = c .pre .1 in
-    (b .0 .small, (b .1 .0 .small, (b .1 .1 .0 .small, (b .1 .1 .1 .0 .small, (b .1 .1 .1 .1 .0 .small,
-    (b .1 .1 .1 .1 .1 .0 .small, (b .1 .1 .1 .1 .1 .1 .0 .small, (d .0 .small, (d .1 .0 .small, tt)))))))))
+    b .0 .small and b .1 .0 .small and b .1 .1 .0 .small and b .1 .1 .1 .0 .small and b .1 .1 .1 .1 .0 .small
+    and b .1 .1 .1 .1 .1 .0 .small and b .1 .1 .1 .1 .1 .1 .0 .small and d .0 .small and d .1 .0 .small and tt
 
 abbrev s : ℕ → Ex
 s n = v n ⊗ v n
@@ -29,7 +31,7 @@ abbrev six : Ex
 six = s 0 ⊕ s 1 ⊕ s 2 ⊕ s 3 ⊕ s 4 ⊕ s 5
 
 abbrev weighE : Ex
-weighE = k (pos 5) ⊗ six ⊕ k (pos 25) ⊗ s 6 ⊕ s 7 ⊕ s 8
+weighE = k cross ⊗ six ⊕ k middle ⊗ s 6 ⊕ s 7 ⊕ s 8
 
 mul-result : tie.Need-mul-result
 mul-result c = fits (ρ c) β (in-range c) (s 0) tt
@@ -65,22 +67,22 @@ add-result-5 : tie.Need-add-result-5
 add-result-5 c = fits (ρ c) β (in-range c) (six) tt
 
 mul-result-7 : tie.Need-mul-result-7
-mul-result-7 c = fits (ρ c) β (in-range c) (k (pos 5) ⊗ six) tt
+mul-result-7 c = fits (ρ c) β (in-range c) (k cross ⊗ six) tt
 
 mul-result-8 : tie.Need-mul-result-8
 mul-result-8 c = fits (ρ c) β (in-range c) (s 6) tt
 
 mul-result-9 : tie.Need-mul-result-9
-mul-result-9 c = fits (ρ c) β (in-range c) (k (pos 25) ⊗ s 6) tt
+mul-result-9 c = fits (ρ c) β (in-range c) (k middle ⊗ s 6) tt
 
 add-result-6 : tie.Need-add-result-6
-add-result-6 c = fits (ρ c) β (in-range c) (k (pos 5) ⊗ six ⊕ k (pos 25) ⊗ s 6) tt
+add-result-6 c = fits (ρ c) β (in-range c) (k cross ⊗ six ⊕ k middle ⊗ s 6) tt
 
 mul-result-10 : tie.Need-mul-result-10
 mul-result-10 c = fits (ρ c) β (in-range c) (s 7) tt
 
 add-result-7 : tie.Need-add-result-7
-add-result-7 c = fits (ρ c) β (in-range c) (k (pos 5) ⊗ six ⊕ k (pos 25) ⊗ s 6 ⊕ s 7) tt
+add-result-7 c = fits (ρ c) β (in-range c) (k cross ⊗ six ⊕ k middle ⊗ s 6 ⊕ s 7) tt
 
 mul-result-11 : tie.Need-mul-result-11
 mul-result-11 c = fits (ρ c) β (in-range c) (s 8) tt

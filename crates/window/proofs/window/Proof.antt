@@ -13,7 +13,8 @@ use Rattle.laws.specs.Lists.{Each}
 use Rattle.laws.proofs.Machine.{four}
 use Rattle.window.specs.Window.{Pixel, pixel, pixelsAt, statsOf}
 use Rattle.window.specs.Passes.{rowAt}
-use Rattle.window.proofs.Places.{below4, stats-same}
+use Rattle.window.proofs.Places.{_and_, below4}
+use Rattle.window.proofs.Same.{stats-alike}
 use Rattle.window.proofs.window.Statement.{statement}
 use Rattle.window.proofs.window.Tie as tie
 
@@ -23,7 +24,7 @@ byte-pixel {n} f = record { byte = n; is = refl; low = omega (arith, f .fits) }
 row-pixels : (l : List ℕ) → ((i : ℕ) → Fits w8 (getD l i 0)) → (at : ℕ) (r : List ℤ) → r ≡ rowAt l at → Each Pixel r
 row-pixels l g at r e =
     subst (λ (z : List ℤ). Each Pixel z) (sym e)
-    (byte-pixel (g at), (byte-pixel (g (at + 1)), (byte-pixel (g (at + 2)), (byte-pixel (g (at + 3)), tt))))
+    (byte-pixel (g at) and byte-pixel (g (at + 1)) and byte-pixel (g (at + 2)) and byte-pixel (g (at + 3)) and tt)
 
 abbrev rowsAt : List ℕ → ℕ → ℕ → List (List ℤ)
 rowsAt l w at = rowAt l at ∷ rowAt l (at + w) ∷ rowAt l (at + 2 * w) ∷ rowAt l (at + 3 * w) ∷ []
@@ -76,20 +77,20 @@ window-stats-requires c κs =
     let g = s .shared-slice-known .given in
     let a = s .before .args .at in
     let w = s .before .args .w in
-    (row-pixels l g a (c .before .before .before .row .result) (c .before .before .before .row .ensures),
-    (row-pixels l g (a + w) (c .before .before .row2 .result) (c .before .before .row2 .ensures),
-    (row-pixels l g (a + 2 * w) (c .before .row3 .result) (c .before .row3 .ensures),
-    (row-pixels l g (a + 3 * w) (c .row4 .result) (c .row4 .ensures), tt))))
+    row-pixels l g a (c .before .before .before .row .result) (c .before .before .before .row .ensures)
+    and row-pixels l g (a + w) (c .before .before .row2 .result) (c .before .before .row2 .ensures)
+    and row-pixels l g (a + 2 * w) (c .before .row3 .result) (c .before .row3 .ensures)
+    and row-pixels l g (a + 3 * w) (c .row4 .result) (c .row4 .ensures) and tt
 
 returns : tie.Need-returns
 returns c =
     let s = c .before .before .before .before .before .before in
     c .window-stats .ensures
     ∙ ap (λ (m : List (List ℤ)). statsOf (pixel m))
-      (four (c .before .before .before .before .row .ensures) (c .before .before .before .row2 .ensures) (c .before .before .row3 .ensures)
-      (c .before .row4 .ensures))
-    ∙ stats-same (pixel (rowsAt (now (s .args .img)) (s .args .w) (s .args .at))) (pixelsAt (now (s .args .img)) (s .args .w) (s .args .at))
-      (place (now (s .args .img)) (s .args .w) (s .args .at))
+    (four (c .before .before .before .before .row .ensures) (c .before .before .before .row2 .ensures) (c .before .before .row3 .ensures)
+    (c .before .row4 .ensures))
+    ∙ stats-alike (pixel (rowsAt (now (s .args .img)) (s .args .w) (s .args .at))) (pixelsAt (now (s .args .img)) (s .args .w) (s .args .at))
+    (place (now (s .args .img)) (s .args .w) (s .args .at))
 
 pub window-spec : {M : Type 1} → statement M
 window-spec =

@@ -1,13 +1,17 @@
 -- `window::window_stats` meets its contract: the two passes make the components, which are small, and `weigh` the gate.
 use mathlib.Core.Path.{_≡_, _∙_, ap, sym, subst}
 use mathlib.Core.List.{List}
+use Prim.Native.Nat.{ℕ}
 use native.Mathlib.Omega.{arith}
 use borrow.Author.Needs.{needs}
+use lib.Dec.{T, ltb, leb}
 use lib.IntN.{ℤ}
 use Rattle.laws.specs.Lists.{Each²}
 use Rattle.window.specs.Window.{Pixels, pixel}
 use Rattle.window.specs.Passes.{Small, transposed, poly4Down}
-use Rattle.window.proofs.Passes.{passes, in-rows, pixels-small, passed-small, weighable, stats-is}
+use Rattle.window.proofs.Passes.{passes, in-rows, of, pixels-small, passed-small, of-small, stats-is}
+use Rattle.window.proofs.Bounds.{most}
+use Rattle.window.proofs.Places.{_and_}
 use Rattle.window.proofs.window_stats.Statement.{statement}
 use Rattle.window.proofs.window_stats.Tie as tie
 
@@ -17,6 +21,17 @@ passed a =
 
 measured : (a : tie.After-poly4-down2) → Pixels (pixel (a .before .before .before .args .px))
 measured a = in-rows (a .before .before .before .args .px) (a .before .before .before .pre)
+
+-- each component is as small as `weigh` wants it, whichever it is
+module _ (c : tie.After-weigh-arg9) (i j : ℕ) (s : T (ltb i 4)) (t : T (ltb j 4)) where
+  abbrev a : tie.After-poly4-down2
+  a = c .before .before .before .before .before .before .before .before .before .before
+
+  small4 : T (leb (most i j) 4080) → Small 4080 (of (a .poly4-down2 .result) i j)
+  small4 b = of-small (a .before .before .before .args .px) (a .poly4-down2 .result) (measured a) (passed a) i j 4080 s t b
+
+  small8 : T (leb (most i j) 8160) → Small 8160 (of (a .poly4-down2 .result) i j)
+  small8 b = of-small (a .before .before .before .args .px) (a .poly4-down2 .result) (measured a) (passed a) i j 8160 s t b
 
 poly4-down-requires : tie.Need-poly4-down-requires
 poly4-down-requires c κs = pixels-small (c .args .px) (c .pre)
@@ -29,6 +44,12 @@ poly4-down-requires-2 c κs =
     let a = c .before .before in
     subst (λ (m : List (List ℤ)). Each² (Small 4080) m) (sym (c .transpose .ensures ∙ ap transposed (c .before .poly4-down .ensures)))
     (passed-small (a .args .px) (in-rows (a .args .px) (a .pre)))
+
+index-1-sum : tie.Need-index-1-sum
+index-1-sum c = omega arith
+
+index-2-sum : tie.Need-index-2-sum
+index-2-sum c = omega arith
 
 index-1-weigh : tie.Need-index-1-weigh
 index-1-weigh c = omega arith
@@ -85,27 +106,24 @@ index-2-weigh-9 : tie.Need-index-2-weigh-9
 index-2-weigh-9 c = omega arith
 
 weigh-requires : tie.Need-weigh-requires
-weigh-requires c κs =
-    let a = c .before .before .before .before .before .before .before .before .before in
-    weighable (a .before .before .before .args .px) (a .poly4-down2 .result) (measured a) (passed a)
+weigh-requires c κs = (
+  small4 c _ _ tt tt tt and small4 c _ _ tt tt tt and small4 c _ _ tt tt tt and small4 c _ _ tt tt tt and small4 c _ _ tt tt tt
+      and small4 c _ _ tt tt tt and small4 c _ _ tt tt tt and tt,
+  small8 c _ _ tt tt tt and small8 c _ _ tt tt tt and tt,
+)
 
-index-1-t11 : tie.Need-index-1-t11
-index-1-t11 c = omega arith
+index-1-op : tie.Need-index-1-op
+index-1-op c = omega arith
 
-index-2-t11 : tie.Need-index-2-t11
-index-2-t11 c = omega arith
-
-index-1-t51 : tie.Need-index-1-t51
-index-1-t51 c = omega arith
-
-index-2-t51 : tie.Need-index-2-t51
-index-2-t51 c = omega arith
+index-2-op : tie.Need-index-2-op
+index-2-op c = omega arith
 
 returns : tie.Need-returns
 returns c =
     let a = c .before .before .before .before .before .before .before .before .before .before .before .before in
-    stats-is (a .before .before .before .args .px) (a .poly4-down2 .result) (measured a) (passed a) (c .before .before .weigh .result)
-    (c .before .before .weigh .ensures)
+    stats-is (a .before .before .before .args .px) (a .poly4-down2 .result) (measured a) (passed a) (c .before .weigh .result)
+    (c .before .weigh .ok)
+    (c .before .weigh .ensures)
 
 pub window-stats-spec : {M : Type 1} → statement M
 window-stats-spec =
@@ -114,6 +132,8 @@ window-stats-spec =
     poly4-down-requires
     transpose-requires
     poly4-down-requires-2
+    index-1-sum
+    index-2-sum
     index-1-weigh
     index-2-weigh
     index-1-weigh-2
@@ -133,8 +153,6 @@ window-stats-spec =
     index-1-weigh-9
     index-2-weigh-9
     weigh-requires
-    index-1-t11
-    index-2-t11
-    index-1-t51
-    index-2-t51
+    index-1-op
+    index-2-op
     returns)

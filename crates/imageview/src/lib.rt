@@ -1,0 +1,68 @@
+// A grey image over lent pixels: imageview.rs, the part that the edge call reads.
+ghost use mathlib.Core.Path.{_≡_};
+ghost use Prim.Native.Nat.{_*_};
+ghost use lib.ListN.{length};
+ghost use lib.IntN.{_+ℤ_};
+ghost use Rattle.imageview.specs.Sample.{clamped, sample};
+ghost use Rattle.imageview.specs.Limits.{imageNumber, far as isFar};
+
+// 1 or 2 where document 01 refuses an image of these sides and pixels, else 0.
+pub fn judge(pixels: &[u8], width: usize, height: usize) -> u32
+    ensures { λ r. ⌜ r ≡ imageNumber (length (now (pixels .entry))) width height ⌝ }
+{
+    if width > 16384 {
+        return 1;
+    }
+    if height > 16384 {
+        return 1;
+    }
+    if pixels.len() != width * height {
+        return 2;
+    }
+    0
+}
+
+// Whether v is beyond ±1,000,000.
+pub fn far(v: i32) -> bool
+    ensures { λ r. ⌜ r ≡ isFar v ⌝ }
+{
+    if v < -1_000_000 {
+        return true;
+    }
+    v > 1_000_000
+}
+
+// The whole number of 0 to most that is nearest to v + o.
+fn place(v: i32, o: i32, most: usize) -> usize
+    ensures { λ r. ⌜ r ≡ clamped (v +ℤ o) most ⌝ }
+{
+    let g = v as i64 + o as i64;
+    if g < 0 {
+        return 0;
+    }
+    let n = g as usize;
+    if n < most { n } else { most }
+}
+
+// The sample at (x, y), on the slice and numbers.
+pub fn sample_at(
+    pixels: &[u8],
+    width: usize,
+    height: usize,
+    origin: [i32; 2],
+    x: i32,
+    y: i32,
+) -> f32
+    requires { ⌜ length (now pixels) ≡ width * height ⌝ }
+    ensures { λ r. ⌜ r ≡ sample (now (pixels .entry)) width height origin x y ⌝ }
+{
+    if width == 0 {
+        return 0.0;
+    }
+    if height == 0 {
+        return 0.0;
+    }
+    let lx = place(x, origin[0], width - 1);
+    let ly = place(y, origin[1], height - 1);
+    pixels[ly * width + lx] as f32
+}

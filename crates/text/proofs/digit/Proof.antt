@@ -1,0 +1,34 @@
+use mathlib.Core.Path.{_≡_, refl, sym, ap, _∙_, subst}
+use mathlib.Core.Bool.{Bool, true, false, not, cond}
+use mathlib.Core.List.{List, [], _∷_, _++_}
+use Prim.Native.Nat.{ℕ, _+_, _*_, _-_, _/_, _%_, _≤_, _<_}
+use native.Mathlib.Omega.{arith}
+use lib.ListN.{length, getD, take, drop, set, length-set}
+use denote.Ref.{now}
+use borrow.Author.Tests.{lt-ltb, le-ltb}
+use Rattle.text.specs.Numerals.{digitOf}
+use borrow.Author.Needs.{needs}
+use Rattle.text.proofs.digit.Statement.{statement}
+use Rattle.text.proofs.digit.Tie as tie
+
+cast-result : tie.Need-cast-result
+cast-result c = search needs
+
+add-result : tie.Need-add-result
+add-result c = search needs
+
+cast-result-2 : tie.Need-cast-result-2
+cast-result-2 c = search needs
+
+add-result-2 : tie.Need-add-result-2
+add-result-2 c = search needs
+
+returns : tie.Need-returns
+returns c = unfold digitOf in rw (lt-ltb (c .before .args .d) 10 (c .if1 .taken)) refl
+
+returns-2 : tie.Need-returns-2
+returns-2 c = unfold digitOf in rw (le-ltb (c .before .args .d) 10 (c .if1 .left)) refl
+
+pub digit-spec : {M : Type 1} → statement M
+digit-spec =
+    tie.close (tie.spec cast-result add-result cast-result-2 add-result-2 returns returns-2)

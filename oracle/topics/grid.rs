@@ -1,0 +1,70 @@
+//! The grid's whole numbers beside the float expressions of `Sample::collect`: every pair of row and step, both sides of every
+//! step's threshold at every width, then the windows of passes with seeded sides.
+
+use super::{Run, Topic};
+use original::grid;
+use std::iter::repeat_with;
+
+pub const TOPIC: Topic = Topic { name: "grid", gate: true, compare, store: None, speed: None };
+
+unsafe extern "C" {
+    safe fn vuzgari_compare_step(w: usize, h: usize, windows: usize) -> usize;
+    safe fn vuzgari_compare_first_x(j: usize, s: usize) -> usize;
+    safe fn vuzgari_compare_row_count(w: usize, s: usize, j: usize) -> usize;
+    pub safe fn vuzgari_compare_total(w: usize, h: usize, windows: usize) -> usize;
+    safe fn vuzgari_compare_needed(w: usize, h: usize) -> usize;
+}
+
+/// The largest side, and the step that it has.
+const SIDE: usize = 16_384;
+const STEPS: usize = 182;
+/// W of the first pass and of the second.
+pub const PASSES: [usize; 2] = [8_192, 32_768];
+/// Seeded sides in the gate.
+const GATE: u64 = 20_000;
+
+fn compare(run: &mut Run) {
+    run.same("first x of every row and step", pairs(), |&(j, s)| vuzgari_compare_first_x(j, s), |&(j, s)| grid::grid_row(SIDE, s, j).0);
+    let widths = pairs().flat_map(|(j, s)| (4..=2 * s + 4).chain([SIDE]).map(move |w| (w, s, j)));
+    run.same("windows of a row", widths, |&(w, s, j)| vuzgari_compare_row_count(w, s, j), |&(w, s, j)| grid::grid_row(w, s, j).1);
+    run.same("step beside every threshold", thresholds(), |&(w, h, n)| vuzgari_compare_step(w, h, n), |&(w, h, n)| grid::step(w, h, n));
+
+    let corners = [(4, 4), (4, SIDE), (SIDE, 4), (SIDE, SIDE), (16_056, 25), (15_887, 132)];
+    let mut random = run.random("sides");
+    let mut side = || {
+        let most = random.pick(&[40, 400, SIDE as u64 - 3]);
+        4 + random.below(most) as usize
+    };
+    let seeded: Vec<_> = repeat_with(|| (side(), side())).take(run.size(GATE) as usize).collect();
+    let sides = || corners.iter().chain(&seeded).copied();
+    let passes = sides().flat_map(|(w, h)| PASSES.map(|n| (w, h, n)));
+    run.same("windows of a pass", passes, |&(w, h, n)| vuzgari_compare_total(w, h, n), |&(w, h, n)| total(w, h, n));
+    run.same("windows that memory is needed for", sides(), |&(w, h)| vuzgari_compare_needed(w, h), |&(w, h)| needed(w, h));
+}
+
+/// Every row and step that an image can have.
+fn pairs() -> impl Iterator<Item = (usize, usize)> {
+    (1..=STEPS).flat_map(|s| (0..(SIDE - 3).div_ceil(s)).map(move |j| (j, s)))
+}
+
+/// For each threshold and each width the heights on both sides of it.
+fn thresholds() -> impl Iterator<Item = (usize, usize, usize)> {
+    PASSES.into_iter().flat_map(|n| {
+        (1..=STEPS).flat_map(move |s| {
+            (4..=SIDE).flat_map(move |w| {
+                let low = s * s * n / w;
+                [low, low + 1].into_iter().filter(|h| (4..=SIDE).contains(h)).map(move |h| (w, h, n))
+            })
+        })
+    })
+}
+
+fn total(w: usize, h: usize, windows: usize) -> usize {
+    grid::total(w, h, grid::step(w, h, windows))
+}
+
+/// The larger T of both passes, the first's where there is no second.
+fn needed(w: usize, h: usize) -> usize {
+    let first = total(w, h, PASSES[0]);
+    if grid::step(w, h, PASSES[0]) > 1 { first.max(total(w, h, PASSES[1])) } else { first }
+}
