@@ -50,11 +50,12 @@ module _ {bands : List Found} {vars : List Float} {n b : ℕ} (c : Collected ban
       → Collected bands vars′ m (b + 1)
   collected-more h {vars′} {m} d q f g =
       record {
-      low = omega arith;
-      few = omega (arith, c .few);
-      long = g;
-      left = ap (λ (l : List Float). l ++ variances (drop (b + 1) bands)) q ∙ append-assoc (take n vars) (varianceOf (getD bands b d)) (variances (drop (b + 1) bands))
-        ∙ sym (ap (λ (l : List Found). take n vars ++ variances l) (next-band bands b d (omega (arith, e)))) ∙ c .left }
+        low = omega arith;
+        few = omega (arith, c .few);
+        long = g;
+        left = ap (λ (l : List Float). l ++ variances (drop (b + 1) bands)) q ∙ append-assoc (take n vars) (varianceOf (getD bands b d)) (variances (drop (b + 1) bands))
+            ∙ sym (ap (λ (l : List Found). take n vars ++ variances l) (next-band bands b d (omega (arith, e)))) ∙ c .left;
+      }
 
   pub collected-end : 4 ≤ b → (take n vars ≡ variances bands) × (n ≤ 4) × (length vars ≡ 4)
   collected-end h =
@@ -72,6 +73,7 @@ module _ (vars : List Float) (n : ℕ) (long : length vars ≡ 4) (h : n ≤ 4) 
     where
       first-n : length (take n vars) ≡ n
       first-n = length-take-le n vars (omega (arith, long))
+
       in-order : rising (at vars) n ≡ rising (at (take n vars)) n
       in-order = rising-same (at vars) (at (take n vars)) n (λ i k. sym (getD-take n vars i nan k))
 
@@ -130,9 +132,10 @@ module _ {most : Float} {bands : List Found} {k : Total} {b : ℕ} (j : Joining 
   pub joining-more : b < 4 → {k′ : Total} (d : Found) → k′ ≡ withFound most k (getD bands b d) → Joining most bands k′ (b + 1)
   joining-more h {k′} d q =
       record {
-      low = omega arith;
-      few = omega (arith, j .few, ap counts (next-band bands b d (omega (arith, e))), found-few most k (getD bands b d), ap (λ (x : Total). x .n) q);
-      left = ap (λ (x : Total). joinFrom most x (drop (b + 1) bands)) q ∙ sym (ap (joinFrom most k) (next-band bands b d (omega (arith, e)))) ∙ j .left }
+        low = omega arith;
+        few = omega (arith, j .few, ap counts (next-band bands b d (omega (arith, e))), found-few most k (getD bands b d), ap (λ (x : Total). x .n) q);
+        left = ap (λ (x : Total). joinFrom most x (drop (b + 1) bands)) q ∙ sym (ap (joinFrom most k) (next-band bands b d (omega (arith, e)))) ∙ j .left;
+      }
 
   pub joining-end : 4 ≤ b → k ≡ joinFrom most nothing bands
   joining-end h = sym (ap (joinFrom most k) (drop-of-length-le bands {i = b} (omega (arith, e)))) ∙ j .left

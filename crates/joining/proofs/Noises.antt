@@ -27,7 +27,7 @@ use Rattle.joining.specs.declared.Noise.{Noise}
 
 -- ---- rounds and counts fit
 
-rounds-few : (g o : List Float) (starts : List ℕ) (image : Float) (b : ℕ) → bandRounds g o starts image b ≤ 12 * b
+pub rounds-few : (g o : List Float) (starts : List ℕ) (image : Float) (b : ℕ) → bandRounds g o starts image b ≤ 12 * b
 rounds-few g o starts image zero = omega arith
 rounds-few g o starts image (suc b) =
     omega (arith, rounds-few g o starts image b, variance-rounds (band g starts b) (band o starts b) image)
@@ -65,14 +65,21 @@ module _ {g o : List Float} {starts : List ℕ} (image : Settled) (e : image ≡
 
   pub gathered-room : b < 4 → {v : BandVariance} → v ≡ bandAt g o starts (image .var) b → r + v .rounds ≤ 60
   gathered-room h {v} q =
-      omega (arith, G .count, image-few, rounds-few g o starts (image .var) b, ap (λ (x : BandVariance). x .rounds) q,
-        variance-rounds (band g starts b) (band o starts b) (image .var))
+      omega (
+        arith,
+        G .count,
+        image-few,
+        rounds-few g o starts (image .var) b,
+        ap (λ (x : BandVariance). x .rounds) q,
+        variance-rounds (band g starts b) (band o starts b) (image .var),
+      )
 
   pub gathered-more : b < 4 → {v : BandVariance} → v ≡ bandAt g o starts (image .var) b → Gathered g o starts (image .var) (image .rounds) (set bands b (v .found)) (r + v .rounds) (b + 1)
   gathered-more h {v} q =
       record {
-      tab = tab-put (G .tab) h (ap (λ (x : BandVariance). x .found) q);
-      count = omega (arith, G .count, ap (λ (x : BandVariance). x .rounds) q, ap (bandRounds g o starts (image .var)) (add-one b)) }
+        tab = tab-put (G .tab) h (ap (λ (x : BandVariance). x .found) q);
+        count = omega (arith, G .count, ap (λ (x : BandVariance). x .rounds) q, ap (bandRounds g o starts (image .var)) (add-one b));
+      }
 
   pub gathered-bands : 4 ≤ b → bands ≡ founds g o starts (image .var)
   gathered-bands h = tab-end (G .tab) h
@@ -91,6 +98,7 @@ module _ {g o : List Float} {starts : List ℕ} (image : Settled) (e : image ≡
     where
       with-sigma : Sigma → Noise
       with-sigma x = record { sigma = x; rounds = r }
+
       with-rounds : ℕ → Noise
       with-rounds x = record { sigma = sigmaOf (founds g o starts (image .var)); rounds = x }
 

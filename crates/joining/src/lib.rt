@@ -7,9 +7,15 @@ ghost use Rattle.quantile.specs.Rising.{at, rising, inserted, Rises};
 ghost use Rattle.rounds.specs.Rounds.{part, bandVariance, Bands};
 ghost use Rattle.joining.specs.Joining as Joining;
 ghost use Rattle.joining.specs.Joining.{variances, varianceOf, withFound, joinFrom, deviation, decided, sigmaOf, noise, counts, countOf};
-
 use rounds::Found;
 use sums::Total;
+
+// A band whose variance is above this many times the median holds structure.
+const MAX_BAND_OUTLIER: f64 = 3.0;
+// Fewer windows give no figure.
+const MIN_SAMPLES: usize = 512;
+// The operator's standard deviation for one gray level of noise.
+const OPERATOR_GAIN: f64 = 20.0;
 
 // The standard deviation of the noise, or document 01's number of why there is none.
 pub enum Sigma {
@@ -28,15 +34,18 @@ pub fn noise_sigma(gate: &[f32], op: &[f32], starts: &[usize; 5]) -> Noise
     requires { ⌜ Bands (now gate) (now op) (now starts) ⌝ }
     ensures { λ r. ⌜ r ≡ noise (now (gate .entry)) (now (op .entry)) (now (starts .entry)) ⌝ }
 {
-    if gate.len() < 512 {
-        return Noise { sigma: Sigma::Number(5), rounds: 0 };
+    if gate.len() < MIN_SAMPLES {
+        return Noise {
+            sigma: Sigma::Number(5),
+            rounds: 0,
+        };
     }
     let image = rounds::image_variance(gate, op, starts);
     let image_var = image.var;
     let mut bands = [Found::Missing; 4];
     let mut rounds = image.rounds;
     let mut b: usize = 0;
-    while b < 4 {
+    while b < rounds::BANDS {
         let a = starts[b];
         let e = starts[b + 1];
         let v = band_variance(gate, op, a, e, image_var);
@@ -45,11 +54,20 @@ pub fn noise_sigma(gate: &[f32], op: &[f32], starts: &[usize; 5]) -> Noise
         rounds = rounds + v.rounds;
         b += 1;
     }
-    Noise { sigma: join(bands), rounds: rounds }
+    Noise {
+        sigma: join(bands),
+        rounds: rounds,
+    }
 }
 
 // The variance of the band from a to e.
-fn band_variance(gate: &[f32], op: &[f32], a: usize, e: usize, image_var: f64) -> rounds::BandVariance
+fn band_variance(
+    gate: &[f32],
+    op: &[f32],
+    a: usize,
+    e: usize,
+    image_var: f64,
+) -> rounds::BandVariance
     requires { ⌜ (a ≤ e) × (e ≤ length (now gate)) × (length (now gate) ≡ length (now op)) ⌝ }
     ensures { λ r. ⌜ r ≡ bandVariance (part (now (gate .entry)) a e) (part (now (op .entry)) a e) «image_var» ⌝ }
 {
@@ -77,7 +95,7 @@ fn collect(bands: [Found; 4], vars: &mut [f64; 4]) -> usize
 {
     let mut n: usize = 0;
     let mut b: usize = 0;
-    while b < 4 {
+    while b < rounds::BANDS {
         let f = bands[b];
         n = push(vars, n, f);
         b += 1;
@@ -105,10 +123,12 @@ fn median(vars: &[f64; 4], n: usize) -> f64
     ensures { λ r. ⌜ r ≡ Joining.median (take n (now (vars .entry))) ⌝ }
 {
     let l = sort(vars, n);
+    let high = l[n / 2];
     if n % 2 == 1 {
-        return l[n / 2];
+        return high;
     }
-    0.5 * (l[n / 2 - 1] + l[n / 2])
+    let low = l[n / 2 - 1];
+    0.5 * (low + high)
 }
 
 // The first n in rising order, and then no numbers.
@@ -153,7 +173,7 @@ fn insert(least: &mut [f64; 4], v: f64)
 fn lid(median: f64) -> f64
     ensures { λ r. ⌜ r ≡ Joining.lid median ⌝ }
 {
-    3.0 * float::max64(median, 33.333333333333336)
+    MAX_BAND_OUTLIER * float::max64(median, sums::ROUNDING_OP_VAR)
 }
 
 // The bands whose variance is at most most: how many windows they admit, and their variances' sum, each times its count.
@@ -163,7 +183,7 @@ fn joined(bands: [Found; 4], most: f64) -> Total
 {
     let mut k = Total { n: 0, sum: 0.0 };
     let mut b: usize = 0;
-    while b < 4 {
+    while b < rounds::BANDS {
         let f = bands[b];
         k = add_band(k, f, most);
         b += 1;
@@ -179,7 +199,10 @@ fn add_band(k: Total, f: Found, most: f64) -> Total
     match f {
         Found::Variance(n, var) => {
             if var <= most {
-                return Total { n: k.n + n, sum: k.sum + sums::whole(n) * var };
+                return Total {
+                    n: k.n + n,
+                    sum: k.sum + sums::whole(n) * var,
+                };
             }
             k
         }
@@ -191,7 +214,7 @@ fn add_band(k: Total, f: Found, most: f64) -> Total
 fn decide(k: Total) -> Sigma
     ensures { λ r. ⌜ r ≡ decided k ⌝ }
 {
-    if k.n < 512 {
+    if k.n < MIN_SAMPLES {
         return Sigma::Number(7);
     }
     Sigma::Figure(deviation(k))
@@ -201,5 +224,5 @@ fn decide(k: Total) -> Sigma
 fn deviation(k: Total) -> f32
     ensures { λ r. ⌜ r ≡ Joining.deviation k ⌝ }
 {
-    float::to_f32(float::sqrt64(k.sum / sums::whole(k.n)) / 20.0)
+    float::to_f32(float::sqrt64(k.sum / sums::whole(k.n)) / OPERATOR_GAIN)
 }

@@ -36,6 +36,7 @@ stays v l R j h i g = go i g
   where
     over : (i : ℕ) → i ≤ j → totalLess v (at l i) ≡ false
     over i g = upto (at l i) (at l j) v (rises-upto l R j i g) h
+
     go : (i : ℕ) → i ≤ j → at l i ≡ slot v l i
     go zero g = passed (totalLess v (at l 0)) v (at l 0) (over 0 g)
     go (suc i) g =
@@ -76,19 +77,22 @@ module _ (N : ℕ) (old : List Float) (v : Float) (R : Rises old) (g : length ol
     pub slide-more : 0 < j → {x : Float} → x ≡ at new (j - 1) → totalLess v x ≡ true → Sliding N old v (j - 1) (set new j x)
     slide-more h {x} e t =
         record {
-        low = omega (arith, s .low);
-        long = length-set new j x ∙ s .long;
-        above = subst (λ (y : Float). totalLess v y ≡ true) is t;
-        done = λ i k m. ⊎-elim (λ (q : j ≡ i). subst (λ (y : ℕ). at (set new j x) y ≡ slot v old y) q (put-same x ∙ here)) (λ (q : j < i). put-other x i (omega arith) ∙ s .done i q m) (eq-or-lt-of-le (back i k));
-        todo = λ i k. put-other x i (omega arith) ∙ s .todo i (omega arith) }
+          low = omega (arith, s .low);
+          long = length-set new j x ∙ s .long;
+          above = subst (λ (y : Float). totalLess v y ≡ true) is t;
+          done = λ i k m. ⊎-elim (λ (q : j ≡ i). subst (λ (y : ℕ). at (set new j x) y ≡ slot v old y) q (put-same x ∙ here)) (λ (q : j < i). put-other x i (omega arith) ∙ s .done i q m) (eq-or-lt-of-le (back i k));
+          todo = λ i k. put-other x i (omega arith) ∙ s .todo i (omega arith);
+        }
       where
         is : x ≡ at old (j - 1)
         is = e ∙ s .todo (j - 1) (omega arith)
+
         back : (i : ℕ) → j - 1 < i → j ≤ i
         back i k = omega arith
+
         here : x ≡ slot v old j
         here = is ∙ chosen (totalLess v (at old (j - 1))) (at old (j - 1)) (first v (at old (suc (j - 1)))) (subst (λ (y : Float). totalLess v y ≡ true) is t)
-          ∙ ap (slot v old) (one-more j h)
+            ∙ ap (slot v old) (one-more j h)
 
     -- place j takes v
     placed : v ≡ slot v old j → ((i : ℕ) → i < j → at old i ≡ slot v old i) → set new j v ≡ take N (inserted v old)
@@ -98,7 +102,7 @@ module _ (N : ℕ) (old : List Float) (v : Float) (R : Rises old) (g : length ol
           | inl q ↦ put-other v i (omega arith) ∙ s .todo i (omega arith) ∙ below i q
           | inr (inl q) ↦ subst (λ (y : ℕ). at (set new j v) y ≡ slot v old y) (sym q) (put-same v ∙ here)
           | inr (inr q) ↦ put-other v i (omega arith) ∙ s .done i q k
-          ])
+        ])
 
     -- v itself goes to place j, which it is the first to be above
     lowest : v ≡ first v (at old j)
@@ -108,7 +112,7 @@ module _ (N : ℕ) (old : List Float) (v : Float) (R : Rises old) (g : length ol
     slide-stop h {x} e t =
         placed
         (lowest ∙ ap (λ (k : ℕ). first v (at old k)) (sym (one-more j h)) ∙ passed (totalLess v (at old (j - 1))) (at old (j - 1)) (first v (at old (suc (j - 1)))) low
-          ∙ ap (slot v old) (one-more j h))
+        ∙ ap (slot v old) (one-more j h))
         (λ i k. stays v old R (j - 1) low i (omega arith))
       where
         low : totalLess v (at old (j - 1)) ≡ false
@@ -121,6 +125,7 @@ module _ (N : ℕ) (old : List Float) (v : Float) (R : Rises old) (g : length ol
       where
         zero-is : 0 ≡ j
         zero-is = omega arith
+
         none : (i : ℕ) → i < j → ⊥
         none i k = omega arith
 
@@ -157,7 +162,7 @@ module _ {N : ℕ} {f : ℕ → Float} {n k : ℕ} {least : List Float} (h : Hel
     | inl l ↦ rw (h .same (suc i) l, h .same i (omega arith)) (rising-rises f k i)
     | inr (inl e) ↦ past (omega arith)
     | inr (inr l) ↦ past (omega arith)
-    ]
+  ]
     where
       past : N ≤ suc i → totalLess (at least (suc i)) (at least i) ≡ false
       past g = nothing-below (at least (suc i)) (at least i) (List·getD-eq-default least nan (omega (arith, h .long)))
@@ -169,10 +174,11 @@ module _ {N : ℕ} {f : ℕ → Float} {n k : ℕ} {least : List Float} (h : Hel
   pub held-more : k < n → {v : Float} {least′ : List Float} → v ≡ f k → least′ ≡ take N (inserted v least) → Held N f n (k + 1) least′
   held-more l {v} {least′} e q =
       record {
-      low = omega arith;
-      long = ap length q ∙ length-take N (inserted v least) ∙ full (length (inserted v least)) (length-inserted v least ∙ ap suc (h .long));
-      same = λ i g. ap (λ (z : List Float). at z i) q ∙ getD-take N (inserted v least) i nan g ∙ slot-is v least held-rises i ∙ slot-same v i g
-        ∙ sym (slot-is v (rising f k) (rising-rises f k) i) ∙ ap (λ (z : Float). at (inserted z (rising f k)) i) e ∙ sym (ap (λ (z : ℕ). at (rising f z) i) (add-one k)) }
+        low = omega arith;
+        long = ap length q ∙ length-take N (inserted v least) ∙ full (length (inserted v least)) (length-inserted v least ∙ ap suc (h .long));
+        same = λ i g. ap (λ (z : List Float). at z i) q ∙ getD-take N (inserted v least) i nan g ∙ slot-is v least held-rises i ∙ slot-same v i g
+            ∙ sym (slot-is v (rising f k) (rising-rises f k) i) ∙ ap (λ (z : Float). at (inserted z (rising f k)) i) e ∙ sym (ap (λ (z : ℕ). at (rising f z) i) (add-one k));
+      }
     where
       full : (a : ℕ) → a ≡ suc N → min N a ≡ N
       full a q = omega arith
@@ -213,11 +219,12 @@ module _ {g : List Float} {s : ℕ} {buf : List Float} {n k : ℕ} (t : Taken g 
   pub taken-more : k < length g → {v : Float} → v ≡ at g k → Taken g s (set buf n v) (n + 1) (k + s)
   taken-more h {v} q =
       record {
-      long = length-set buf n v ∙ t .long;
-      step = omega (arith, t .step);
-      last = omega arith;
-      same = λ j m. ⊎-elim (λ (i : j ≡ n). ap (at (set buf n v)) i ∙ getD-set-same buf n v nan (omega (arith, t .long, taken-room h)) ∙ q ∙ ap (at g) (t .step ∙ ap (λ (x : ℕ). x * s) (sym i)))
-        (λ (i : j < n). getD-set-other buf n j v nan (omega arith) ∙ t .same j i) (eq-or-lt-of-le (upto-n j m)) }
+        long = length-set buf n v ∙ t .long;
+        step = omega (arith, t .step);
+        last = omega arith;
+        same = λ j m. ⊎-elim (λ (i : j ≡ n). ap (at (set buf n v)) i ∙ getD-set-same buf n v nan (omega (arith, t .long, taken-room h)) ∙ q ∙ ap (at g) (t .step ∙ ap (λ (x : ℕ). x * s) (sym i)))
+            (λ (i : j < n). getD-set-other buf n j v nan (omega arith) ∙ t .same j i) (eq-or-lt-of-le (upto-n j m));
+      }
     where
       upto-n : (j : ℕ) → j < n + 1 → j ≤ n
       upto-n j m = omega arith
@@ -230,8 +237,10 @@ module _ {g : List Float} {s : ℕ} {buf : List Float} {n k : ℕ} (t : Taken g 
     where
       go : (x : ℕ) → k ≡ x → x ≤ length g + (s - 1)
       go x p = omega (arith, t .last)
+
       over : length g + (s - 1) < (n + 1) * s
       over = omega (arith, h, t .step)
+
       one-less : (x : ℕ) → x < n + 1 → x ≤ n
       one-less x h = omega arith
 

@@ -129,10 +129,11 @@ module _ (x y : Float) where
     | inl l ↦ apart l
     | inr (inl e) ↦ ties e (elim (trichotomy (rank x) 1) [ inl l ↦ inr (omega arith) | inr (inl o) ↦ inl o | inr (inr l) ↦ inr (omega arith) ])
     | inr (inr l) ↦ absurd (true≢false (sym (lower (rank y) (rank x) (over x y) (over y x) l) ∙ test))
-    ]
+  ]
     where
       test : byRank (rank y) (rank x) (over x y) (over y x) ≡ false
       test = sym (less-is y x) ∙ h
+
       ties : rank x ≡ rank y → (rank x ≡ 1) ⊎ (rank x ≡ 1 → ⊥) → Upto x y
       ties e (inl o) = minus o (sym e ∙ o) (ltb-false (num x * den y) (num y * den x) (sym (at-one (rank y) (rank x) (over x y) (over y x) (sym e) (sym e ∙ o)) ∙ test))
       ties e (inr o) = plus e o (ltb-false (num y * den x) (num x * den y) (sym (elsewhere (rank y) (rank x) (over x y) (over y x) (sym e) (λ (u : rank y ≡ 1). o (e ∙ u))) ∙ test))

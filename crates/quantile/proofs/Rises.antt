@@ -100,6 +100,7 @@ inserted-count q v (x ∷ l) = go (totalLess v x) (inserted-count q v l)
   where
     swap : (a b c d : ℕ) → a ≡ b + c → a + d ≡ b + d + c
     swap a b c d h = omega arith
+
     go : (b : Bool) → count q (inserted v l) ≡ count q l + cond (q v) 1 0 → count q (cond b (v ∷ x ∷ l) (x ∷ inserted v l)) ≡ count q (x ∷ l) + cond (q v) 1 0
     go true h = refl
     go false h = swap (count q (inserted v l)) (count q l) (cond (q v) 1 0) (cond (q x) 1 0) h
@@ -148,14 +149,17 @@ count-many q (x ∷ l) (suc p) g h =
 pub place-stands : (f : ℕ → Float) (n p : ℕ) → p < n → Stands f n p (at (rising f n) p)
 place-stands f n p h =
     record {
-    few = subst (λ (k : ℕ). k ≤ p) (rising-count (λ (x : Float). totalLess x v) f n) (count-few (λ (x : Float). totalLess x v) l p (λ i g. rises-upto l R i p g));
-    many = subst (λ (k : ℕ). p < k) (rising-count (λ (x : Float). not (totalLess v x)) f n)
-      (count-many (λ (x : Float). not (totalLess v x)) l p (omega (arith, length-rising f n)) (λ i g. ap not (rises-upto l R p i g))) }
+      few = subst (λ (k : ℕ). k ≤ p) (rising-count (λ (x : Float). totalLess x v) f n) (count-few (λ (x : Float). totalLess x v) l p (λ i g. rises-upto l R i p g));
+      many = subst (λ (k : ℕ). p < k) (rising-count (λ (x : Float). not (totalLess v x)) f n)
+          (count-many (λ (x : Float). not (totalLess v x)) l p (omega (arith, length-rising f n)) (λ i g. ap not (rises-upto l R p i g)));
+    }
   where
     l : List Float
     l = rising f n
+
     v : Float
     v = at (rising f n) p
+
     R : Rises (rising f n)
     R = rising-rises f n
 
@@ -178,6 +182,7 @@ not-below f n p v w s t = go (totalLess v w) refl
         step : (b : Bool) → totalLess x w ≡ b → b ≡ true
         step true g = refl
         step false g = absurd (true≢false (sym e ∙ upto w x v g (not-true (totalLess v x) h)))
+
     go : (b : Bool) → totalLess v w ≡ b → b ≡ false
     go true e = absurd (crowded (tally-mono (λ (i : ℕ). not (totalLess v (f i))) (λ (i : ℕ). totalLess (f i) w) (λ i h. less (f i) e h) n) (s .many) (t .few))
       where

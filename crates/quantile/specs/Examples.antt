@@ -28,16 +28,16 @@ pub counts : (taken 0 ≡ 0) × (taken 1 ≡ 1) × (taken 255 ≡ 255) × (taken
 counts = (refl, refl, refl, refl, refl, refl, refl)
 
 -- the least of 15 gates, and the second of 16: the place counts from 0
-pub least : quiet (from (λ (k : ℕ). f (7 * k % 15 + 3)) 0 15) ≡ f 3
+pub least : eq (quiet (from (λ (k : ℕ). f (7 * k % 15 + 3)) 0 15)) (f 3) ≡ true
 unfolding quiet totalLess negative lt eq isNan round
 least = refl
 
-pub second : quiet (from (λ (k : ℕ). f (7 * k % 16 + 3)) 0 16) ≡ f 4
+pub second : eq (quiet (from (λ (k : ℕ). f (7 * k % 16 + 3)) 0 16)) (f 4) ≡ true
 unfolding quiet totalLess negative lt eq isNan round
 second = refl
 
 -- of 300 gates that fall from 300 to 1 every other one is taken: 300, 298, .. , 2, and the tenth least of these is 20
-pub every-other : quiet (from (λ (k : ℕ). f (300 - k)) 0 300) ≡ f 20
+pub every-other : eq (quiet (from (λ (k : ℕ). f (300 - k)) 0 300)) (f 20) ≡ true
 unfolding quiet totalLess negative lt eq isNan round
 every-other = refl
 

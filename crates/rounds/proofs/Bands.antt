@@ -94,8 +94,13 @@ module _ {g o : List Float} {starts : List ℕ} (B : Bands g o starts) where
   pub bands-few : (var : Float) (b : ℕ) → b ≤ 4 → bandsTotal g o starts var b .n ≤ getD starts b 0
   bands-few var zero h = omega arith
   bands-few var (suc b) h =
-      omega (arith, bands-few var b (omega arith), B .rise b (omega arith), ap (λ (k : ℕ). getD starts k 0) (add-one b),
-        part-few g o (getD starts b 0) (getD starts (b + 1) 0) var (within (b + 1) (omega arith)))
+      omega (
+        arith,
+        bands-few var b (omega arith),
+        B .rise b (omega arith),
+        ap (λ (k : ℕ). getD starts k 0) (add-one b),
+        part-few g o (getD starts b 0) (getD starts (b + 1) 0) var (within (b + 1) (omega arith)),
+      )
 
 -- ---- image_admitted: b bands are done
 
@@ -114,11 +119,12 @@ module _ {g o : List Float} {starts : List ℕ} {var s : Float} {n b : ℕ} (j :
   pub joined-more : b < 4 → {k : Total} → k ≡ next-band → Joined g o starts var (add binary64 s (k .sum)) (n + k .n) (b + 1)
   joined-more h {k} e =
       record {
-      low = omega arith;
-      sum = ap (λ (x : Float). add binary64 x (k .sum)) (j .sum) ∙ ap (λ (x : Total). add binary64 (bandsTotal g o starts var b .sum) (x .sum)) e
-        ∙ sym (ap (λ (x : ℕ). bandsTotal g o starts var x .sum) (add-one b));
-      count = ap (λ (x : ℕ). x + k .n) (j .count) ∙ ap (λ (x : Total). bandsTotal g o starts var b .n + x .n) e
-        ∙ sym (ap (λ (x : ℕ). bandsTotal g o starts var x .n) (add-one b)) }
+        low = omega arith;
+        sum = ap (λ (x : Float). add binary64 x (k .sum)) (j .sum) ∙ ap (λ (x : Total). add binary64 (bandsTotal g o starts var b .sum) (x .sum)) e
+            ∙ sym (ap (λ (x : ℕ). bandsTotal g o starts var x .sum) (add-one b));
+        count = ap (λ (x : ℕ). x + k .n) (j .count) ∙ ap (λ (x : Total). bandsTotal g o starts var b .n + x .n) e
+            ∙ sym (ap (λ (x : ℕ). bandsTotal g o starts var x .n) (add-one b));
+      }
 
   -- the count fits
   pub joined-few : Bands g o starts → b < 4 → {k : Total} → k ≡ next-band → n + k .n ≤ length g

@@ -89,4 +89,4 @@ module _ (g o : List Float) (image : Float) where
   variance-holds P x y =
       variance-both (λ (v : BandVariance). P (v .found)) x
       (judged-both P (settle (bandTotal g o) (start g o))
-        (y (settle (bandTotal g o) (start g o) .n) (settle (bandTotal g o) (start g o) .var) (settle-count (bandTotal g o) (length g) (λ v. admitted-few g o v v) (start g o))) x)
+      (y (settle (bandTotal g o) (start g o) .n) (settle (bandTotal g o) (start g o) .var) (settle-count (bandTotal g o) (length g) (λ v. admitted-few g o v v) (start g o))) x)

@@ -5,8 +5,20 @@ ghost use lib.ListN.{length};
 ghost use Rattle.sums.specs.Start as Start;
 ghost use Rattle.rounds.specs.Rounds as Rounds;
 ghost use Rattle.rounds.specs.Rounds.{judged, bandTotal, bandVariance, part, Bands, imageTotal, imageVariance};
-
 use sums::Total;
+
+// A band whose variance is above this many times the image's holds structure.
+const MAX_BAND_RATIO: f64 = 8.0;
+// A band needs this many admitted windows.
+const MIN_BAND_SAMPLES: usize = 128;
+// Rounds are settled when the variance moves by at most this fraction.
+const SETTLED: f64 = 0.001;
+// The most rounds.
+const ROUNDS: usize = 12;
+// Intensity bands.
+pub const BANDS: usize = 4;
+// The mean square of a standard normal number that lies within TRUNC of 0.
+const TRUNC_SECOND_MOMENT: f64 = 0.998929;
 
 // Where rounds end: the count and the variance of the last one, and how many were evaluated.
 pub struct Settled {
@@ -31,11 +43,17 @@ pub fn variance(gate: &[f32], op: &[f32], image_var: f64) -> BandVariance
     requires { ⌜ length (now gate) ≡ length (now op) ⌝ }
     ensures { λ r. ⌜ r ≡ bandVariance (now (gate .entry)) (now (op .entry)) «image_var» ⌝ }
 {
-    if gate.len() < 128 {
-        return BandVariance { found: Found::Missing, rounds: 0 };
+    if gate.len() < MIN_BAND_SAMPLES {
+        return BandVariance {
+            found: Found::Missing,
+            rounds: 0,
+        };
     }
     let s = settle(gate, op, start(gate, op));
-    BandVariance { found: judge(s, image_var), rounds: s.rounds }
+    BandVariance {
+        found: judge(s, image_var),
+        rounds: s.rounds,
+    }
 }
 
 // Where the rounds over some windows start.
@@ -54,28 +72,40 @@ fn settle(gate: &[f32], op: &[f32], start: f64) -> Settled
     let mut var = start;
     let mut prev: usize = 18446744073709551615;
     let mut r: usize = 0;
-    while r < 12 {
+    while r < ROUNDS {
         let k = sums::admitted(gate, op, var, var);
         let n = k.n;
         r += 1;
         if n == 0 {
-            return Settled { n: 0, var: var, rounds: r };
+            return Settled {
+                n: 0,
+                var: var,
+                rounds: r,
+            };
         }
         let new = next(k);
         if near(n, prev, new, var) {
-            return Settled { n: n, var: new, rounds: r };
+            return Settled {
+                n: n,
+                var: new,
+                rounds: r,
+            };
         }
         var = new;
         prev = n;
     }
-    Settled { n: prev, var: var, rounds: r }
+    Settled {
+        n: prev,
+        var: var,
+        rounds: r,
+    }
 }
 
 // The variance that the admitted windows yield.
 fn next(k: Total) -> f64
     ensures { λ r. ⌜ r ≡ Rounds.next k ⌝ }
 {
-    k.sum / sums::whole(k.n) / 0.998929
+    k.sum / sums::whole(k.n) / TRUNC_SECOND_MOMENT
 }
 
 // Whether the rounds end here.
@@ -85,17 +115,17 @@ fn near(n: usize, prev: usize, new: f64, var: f64) -> bool
     if n == prev {
         return true;
     }
-    float::abs64(new - var) <= 0.001 * var
+    float::abs64(new - var) <= SETTLED * var
 }
 
 // Whether a band's variance counts.
 fn judge(s: Settled, image_var: f64) -> Found
     ensures { λ r. ⌜ r ≡ judged s «image_var» ⌝ }
 {
-    if s.n < 128 {
+    if s.n < MIN_BAND_SAMPLES {
         return Found::Missing;
     }
-    if s.var > 8.0 * float::max64(image_var, 33.333333333333336) {
+    if s.var > MAX_BAND_RATIO * float::max64(image_var, sums::ROUNDING_OP_VAR) {
         return Found::Missing;
     }
     Found::Variance(s.n, s.var)
@@ -108,22 +138,34 @@ pub fn image_variance(gate: &[f32], op: &[f32], starts: &[usize; 5]) -> Settled
 {
     let mut var = start(gate, op);
     let mut prev: usize = 18446744073709551615;
-    let mut r: usize = 0;
-    while r < 12 {
+    let mut rounds: usize = 0;
+    while rounds < ROUNDS {
         let k = image_admitted(gate, op, starts, var);
         let n = k.n;
-        r += 1;
+        rounds += 1;
         if n == 0 {
-            return Settled { n: 0, var: var, rounds: r };
+            return Settled {
+                n: 0,
+                var: var,
+                rounds: rounds,
+            };
         }
         let new = next(k);
         if near(n, prev, new, var) {
-            return Settled { n: n, var: new, rounds: r };
+            return Settled {
+                n: n,
+                var: new,
+                rounds: rounds,
+            };
         }
         var = new;
         prev = n;
     }
-    Settled { n: prev, var: var, rounds: r }
+    Settled {
+        n: prev,
+        var: var,
+        rounds: rounds,
+    }
 }
 
 // The windows admitted in the four bands, each summed by itself.
@@ -134,7 +176,7 @@ fn image_admitted(gate: &[f32], op: &[f32], starts: &[usize; 5], var: f64) -> To
     let mut sum = 0.0f64;
     let mut n: usize = 0;
     let mut b: usize = 0;
-    while b < 4 {
+    while b < BANDS {
         let a = starts[b];
         let e = starts[b + 1];
         let k = band_admitted(gate, op, a, e, var);

@@ -25,6 +25,7 @@ tally-add b a (suc m) =
   where
     step : (a m : ℕ) → a + suc m ≡ suc (a + m)
     step a m = omega arith
+
     assoc : (x y z : ℕ) → x + y + z ≡ x + (y + z)
     assoc x y z = omega arith
 

@@ -40,8 +40,9 @@ module _ {o g : List Float} {q s : Float} {n k : ℕ} (i : Quiet o g q s n k) wh
       → Quiet o g q s′ (n + d) (k + 1)
   quiet-more h {s′} {d} e r =
       record {
-      counted = tallied-more (isQuiet g q) (i .counted) h r;
-      sum = e ∙ ap (λ (x : Float). cond (le (at g k) q) (add binary64 x (at o k)) x) (i .sum) ∙ sym (ap (quietSum o g q) (add-one k)) }
+        counted = tallied-more (isQuiet g q) (i .counted) h r;
+        sum = e ∙ ap (λ (x : Float). cond (le (at g k) q) (add binary64 x (at o k)) x) (i .sum) ∙ sym (ap (quietSum o g q) (add-one k));
+      }
 
   pub quiet-end : length g ≤ k → {r : Float} → r ≡ mean s n → r ≡ meanQuiet o g q
   unfolding meanQuiet

@@ -36,8 +36,9 @@ module _ {t c : Float} {g o : List Float} {a m : ℕ} {s : Float} {n k : ℕ} (i
       → Summed t c g o a m (add binary32 s v) (n + d) (k + 1)
   summed-more h {v} {d} p q =
       record {
-      counted = tallied-more (λ (j : ℕ). kept t c g o (a + j)) (i .counted) h q;
-      sum = ap (λ (x : Float). add binary32 x v) (i .sum) ∙ ap (λ (x : Float). add binary32 (blockSum t c g o a k) x) p ∙ sym (ap (blockSum t c g o a) (add-one k)) }
+        counted = tallied-more (λ (j : ℕ). kept t c g o (a + j)) (i .counted) h q;
+        sum = ap (λ (x : Float). add binary32 x v) (i .sum) ∙ ap (λ (x : Float). add binary32 (blockSum t c g o a k) x) p ∙ sym (ap (blockSum t c g o a) (add-one k));
+      }
 
   pub summed-end : m ≤ k → (n ≡ tally (λ (j : ℕ). kept t c g o (a + j)) m) × (s ≡ blockSum t c g o a m)
   summed-end h =
@@ -64,15 +65,17 @@ module _ {t c : Float} {g o : List Float} {s : Float} {n i : ℕ} (I : Added t c
       → d ≡ tally (λ (k : ℕ). kept t c g o (i * 256 + k)) m → v ≡ w → w ≡ blockSum t c g o (i * 256) m → Added t c g o (add binary64 s v) (n + d) (i + 1)
   added-more h {v} {w} {d} {m} e p u q =
       record {
-      low = omega arith;
-      sum = ap (λ (x : Float). add binary64 x v) (I .sum)
-        ∙ ap (λ (x : Float). add binary64 (blocksSum t c g o i) x) (u ∙ q ∙ ap (blockSum t c g o (i * 256)) e) ∙ sym (ap (blocksSum t c g o) (add-one i));
-      count = ap (λ (x : ℕ). x + d) (I .count ∙ ap (tally (kept t c g o)) (full i (length g) h))
-        ∙ ap (λ (x : ℕ). tally (kept t c g o) (i * 256) + x) p ∙ sym (tally-add (kept t c g o) (i * 256) m)
-        ∙ ap (tally (kept t c g o)) (next i (length g) m h e) }
+        low = omega arith;
+        sum = ap (λ (x : Float). add binary64 x v) (I .sum)
+            ∙ ap (λ (x : Float). add binary64 (blocksSum t c g o i) x) (u ∙ q ∙ ap (blockSum t c g o (i * 256)) e) ∙ sym (ap (blocksSum t c g o) (add-one i));
+        count = ap (λ (x : ℕ). x + d) (I .count ∙ ap (tally (kept t c g o)) (full i (length g) h))
+            ∙ ap (λ (x : ℕ). tally (kept t c g o) (i * 256) + x) p ∙ sym (tally-add (kept t c g o) (i * 256) m)
+            ∙ ap (tally (kept t c g o)) (next i (length g) m h e);
+      }
     where
       full : (i l : ℕ) → i * 256 < l → min (i * 256) l ≡ i * 256
       full i l h = omega arith
+
       next : (i l m : ℕ) → i * 256 < l → m ≡ min 256 (l - i * 256) → i * 256 + m ≡ min ((i + 1) * 256) l
       next i l m h e = omega arith
 
@@ -87,6 +90,7 @@ module _ {t c : Float} {g o : List Float} {s : Float} {n i : ℕ} (I : Added t c
     where
       all : (i l : ℕ) → l ≤ i * 256 → min (i * 256) l ≡ l
       all i l h = omega arith
+
       last : (i l : ℕ) → i ≤ (l + 255) / 256 → l ≤ i * 256 → i ≡ (l + 255) / 256
       last i l p q = omega arith
 

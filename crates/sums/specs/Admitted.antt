@@ -16,7 +16,7 @@ unfoldable pub threshold : Float → Float
 threshold var = convert binary32 (mul binary64 gate (larger var rounding))
 
 unfoldable pub cut : Float → Float
-cut var = convert binary32 (mul binary64 trunc (larger var rounding))
+cut var = convert binary32 (mul binary64 (mul binary64 trunc trunc) (larger var rounding))
 
 -- a window of that gate and output is admitted, and adds so much to its block
 abbrev pub keeps : Float → Float → Float → Float → Bool

@@ -2,3 +2,4 @@
 pub mod Numbers
 pub mod Admitted
 pub mod Start
+pub mod Examples

@@ -1,4 +1,4 @@
--- The constants of noise.rs, each the f64 nearest to its number.
+-- Constants of noise.rs, each the f64 nearest to its number.
 use mathlib.Core.Path.{_≡_, refl}
 use mathlib.Core.Bool.{false}
 use Prim.Native.Nat.{ℕ}
@@ -23,11 +23,11 @@ pub gate-is : gate ≡ round binary64 false 20 1
 unfolding ofBits round
 gate-is = refl
 
--- TRUNC * TRUNC: 16
+-- TRUNC: 4
 abbrev pub trunc : Float
-trunc = ofBits binary64 0x4030_0000_0000_0000
+trunc = ofBits binary64 0x4010_0000_0000_0000
 
-pub trunc-is : trunc ≡ round binary64 false 16 1
+pub trunc-is : trunc ≡ round binary64 false 4 1
 unfolding ofBits round
 trunc-is = refl
 

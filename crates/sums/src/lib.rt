@@ -13,6 +13,15 @@ ghost use Rattle.sums.specs.Admitted.{keeps, blockSum, admittedAt};
 ghost use Rattle.sums.specs.Start as Start;
 ghost use Rattle.sums.specs.Start.{meanQuiet};
 
+// A window's gate is kept below this many times the variance.
+const GATE: f64 = 20.0;
+// The truncation of the output, in its standard deviations.
+const TRUNC: f64 = 4.0;
+// The operator's variance of the 8-bit rounding noise: the gate is never set tighter than by this.
+pub const ROUNDING_OP_VAR: f64 = 400.0 / 12.0;
+// Windows of a block.
+const BLOCK: usize = 256;
+
 // How many windows are admitted, and their sum.
 pub struct Total {
     pub n: usize,
@@ -30,8 +39,8 @@ pub fn admitted(gate: &[f32], op: &[f32], gate_var: f64, op_var: f64) -> Total
     let mut sum = 0.0f64;
     let mut n: usize = 0;
     let mut i: usize = 0;
-    while i * 256 < gate.len() {
-        let a = i * 256;
+    while i * BLOCK < gate.len() {
+        let a = i * BLOCK;
         let m = block_len(gate.len(), a);
         let b = block(gate, op, a, m, t, c);
         sum = sum + std::num::f32_to_f64_with_nan(b.sum);
@@ -45,14 +54,14 @@ pub fn admitted(gate: &[f32], op: &[f32], gate_var: f64, op_var: f64) -> Total
 fn threshold(var: f64) -> f32
     ensures { λ r. ⌜ r ≡ Admitted.threshold var ⌝ }
 {
-    float::to_f32(20.0 * float::max64(var, 33.333333333333336))
+    float::to_f32(GATE * float::max64(var, ROUNDING_OP_VAR))
 }
 
 // An admitted window's squared output is at most this.
 fn cut(var: f64) -> f32
     ensures { λ r. ⌜ r ≡ Admitted.cut var ⌝ }
 {
-    float::to_f32(16.0 * float::max64(var, 33.333333333333336))
+    float::to_f32(TRUNC * TRUNC * float::max64(var, ROUNDING_OP_VAR))
 }
 
 // How many of len windows the block from window a on has.
@@ -60,7 +69,7 @@ fn block_len(len: usize, a: usize) -> usize
     requires { ⌜ a ≤ len ⌝ }
     ensures { λ r. ⌜ r ≡ min 256 (len - a) ⌝ }
 {
-    if len - a < 256 { len - a } else { 256 }
+    if len - a < BLOCK { len - a } else { BLOCK }
 }
 
 // The same of one block.
@@ -124,7 +133,11 @@ pub fn mean_quiet(op: &[f32], gate: &[f32], quiet: f32) -> f64
 fn add_quiet(sum: f64, g: f32, o: f32, quiet: f32) -> f64
     ensures { λ r. ⌜ r ≡ cond (le g quiet) (add binary64 sum o) sum ⌝ }
 {
-    if g <= quiet { sum + std::num::f32_to_f64_with_nan(o) } else { sum }
+    if g <= quiet {
+        sum + std::num::f32_to_f64_with_nan(o)
+    } else {
+        sum
+    }
 }
 
 // 1 where the gate is quiet.

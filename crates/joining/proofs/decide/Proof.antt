@@ -1,20 +1,15 @@
-use Rattle.joining.proofs.Joins.{decided-thin, decided-is}
+-- `decide` meets its contract, by the test. Assumes nothing.
 use borrow.Author.Needs.{needs}
+use Rattle.joining.proofs.Joins.{decided-thin, decided-is}
 use Rattle.joining.proofs.decide.Statement.{statement}
 use Rattle.joining.proofs.decide.Tie as tie
-use Rattle.joining.proofs.decide.Reads as reads
-use Rattle.joining.proofs.decide.Lts as lts
-use Rattle.joining.proofs.deviation.Reads as deviation-reads
 
--- src/lib.rt:195:9
 returns : tie.Need-returns
 returns c = decided-thin (c .before .before .args .k) (c .if1 .taken)
 
--- src/lib.rt:197:19
 deviation-requires : tie.Need-deviation-requires
 deviation-requires c κs = search needs
 
--- src/lib.rt:191:1
 returns-2 : tie.Need-returns-2
 returns-2 c = decided-is (c .before .before .before .args .k) (c .before .if1 .left) (c .deviation .ensures)
 

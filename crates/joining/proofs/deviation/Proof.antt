@@ -1,31 +1,23 @@
+-- `deviation` meets its contract: it is its definition, operation by operation. Assumes nothing.
 use mathlib.Core.Path.{_∙_, ap}
 use lib.Ieee.{Float, binary32, binary64, div}
+use borrow.Author.Needs.{needs}
 use Rattle.ieee.specs.Convert.{convert}
 use Rattle.ieee.specs.Sqrt.{sqrt}
 use Rattle.joining.specs.Numbers.{gain}
 use Rattle.joining.specs.Joining.{deviation}
-use borrow.Author.Needs.{needs}
 use Rattle.joining.proofs.deviation.Statement.{statement}
 use Rattle.joining.proofs.deviation.Tie as tie
-use Rattle.joining.proofs.deviation.Reads as reads
-use Rattle.joining.proofs.deviation.Lts as lts
-use Rattle.float.proofs.sqrt64.Reads as sqrt64-reads
-use Rattle.float.proofs.to_f32.Reads as to-f32-reads
-use Rattle.sums.proofs.whole.Reads as whole-reads
 
--- src/lib.rt:204:41
 whole-requires : tie.Need-whole-requires
 whole-requires c κs = search needs
 
--- src/lib.rt:204:19
 sqrt64-requires : tie.Need-sqrt64-requires
 sqrt64-requires c κs = search needs
 
--- src/lib.rt:204:5
 to-f32-requires : tie.Need-to-f32-requires
 to-f32-requires c κs = search needs
 
--- src/lib.rt:201:1
 returns : tie.Need-returns
 unfolding deviation
 returns c =

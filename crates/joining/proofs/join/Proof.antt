@@ -1,44 +1,30 @@
-use denote.Ref.{now}
-use Rattle.joining.proofs.Joins.{sigma-none, sigma-is}
+-- `join` meets its contract, stage by stage. Assumes nothing.
 use borrow.Author.Needs.{needs}
+use Rattle.joining.proofs.Joins.{sigma-none, sigma-is}
 use Rattle.joining.proofs.join.Statement.{statement}
 use Rattle.joining.proofs.join.Tie as tie
-use Rattle.joining.proofs.join.Reads as reads
-use Rattle.joining.proofs.join.Lts as lts
-use Rattle.joining.proofs.collect.Reads as collect-reads
-use Rattle.joining.proofs.decide.Reads as decide-reads
-use Rattle.joining.proofs.joined.Reads as joined-reads
-use Rattle.joining.proofs.lid.Reads as lid-reads
-use Rattle.joining.proofs.median.Reads as median-reads
 
--- src/lib.rt:65:9
 collect-requires : tie.Need-collect-requires
 collect-requires c κs = search needs
 
--- src/lib.rt:67:9
 returns : tie.Need-returns
 returns c =
     let s = c .before .before .before in
     let e = c .before .collect .ensures in
     sigma-none (s .args .bands) (c .before .collect .last .1 .0) (c .before .collect .result) (e .0) (e .1) (e .2) (c .if1 .taken)
 
--- src/lib.rt:69:20
 median-requires : tie.Need-median-requires
 median-requires c κs = search needs
 
--- src/lib.rt:69:9
 lid-requires : tie.Need-lid-requires
 lid-requires c κs = search needs
 
--- src/lib.rt:70:12
 joined-requires : tie.Need-joined-requires
 joined-requires c κs = search needs
 
--- src/lib.rt:70:5
 decide-requires : tie.Need-decide-requires
 decide-requires c κs = search needs
 
--- src/lib.rt:60:1
 returns-2 : tie.Need-returns-2
 returns-2 c =
     let n = c .before .before .before .before .before in

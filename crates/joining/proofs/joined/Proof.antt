@@ -1,13 +1,11 @@
+-- `joined` meets its contract. The total so far, and then the bands left, make the whole total. Assumes nothing.
+use Prim.Native.Nat.{_-_}
+use native.Mathlib.Omega.{arith}
 use lib.Ieee.{nan}
 use Rattle.rounds.specs.declared.Found.the-variants.{Variance}
-use Prim.Native.Nat.{_-_}
 use Rattle.joining.proofs.Joins.{Joining, joining-start, joining-room, joining-more, joining-end}
-use native.Mathlib.Omega.{arith}
 use Rattle.joining.proofs.joined.Statement.{statement}
 use Rattle.joining.proofs.joined.Tie as tie
-use Rattle.joining.proofs.joined.Reads as reads
-use Rattle.joining.proofs.joined.Lts as lts
-use Rattle.joining.proofs.add_band.Reads as add-band-reads
 
 abbrev Inv-loop : tie.InvT-loop
 Inv-loop most bands k₀ b₀ k b = Joining most bands k b
@@ -15,39 +13,31 @@ Inv-loop most bands k₀ b₀ k b = Joining most bands k b
 abbrev μ-loop : tie.MeasureT-loop
 μ-loop most bands k₀ b₀ k b = 4 - b
 
--- src/lib.rt:166:5
 loop-holds : tie.Need-loop-holds Inv-loop μ-loop
 loop-holds c = joining-start _ _
 
--- src/lib.rt:167:17
 mul-f : tie.Need-mul-f Inv-loop μ-loop
 mul-f c = omega arith
 
--- src/lib.rt:167:17
 array-copy-out-f : tie.Need-array-copy-out-f Inv-loop μ-loop
 array-copy-out-f c = omega arith
 
--- src/lib.rt:168:9
 add-band-requires : tie.Need-add-band-requires Inv-loop μ-loop
 add-band-requires c κs =
     let n = c .before in
     omega (arith, n .before .before .pre .1, joining-room (n .before .loop .inv) (n .before .before .pre .0) (n .loop-test .taken) (Variance 0 nan))
 
--- src/lib.rt:169:9
 add-b : tie.Need-add-b Inv-loop μ-loop
 add-b c = omega arith
 
--- src/lib.rt:166:5
 loop-less : tie.Need-loop-less Inv-loop μ-loop
 loop-less c = omega arith
 
--- src/lib.rt:166:5
 loop-again : tie.Need-loop-again Inv-loop μ-loop
 loop-again c =
     let n = c .before .before in
     joining-more (n .before .loop .inv) (n .before .before .pre .0) (n .loop-test .taken) _ (c .add-band .ensures)
 
--- src/lib.rt:160:1
 returns : tie.Need-returns Inv-loop μ-loop
 returns c = joining-end (c .before .loop .inv) (c .before .before .pre .0) (c .loop-test .left)
 

@@ -1,41 +1,33 @@
+-- `push` meets its contract, by the cases of the band's answer. Assumes nothing.
 use mathlib.Core.Path.{_∙_}
 use native.Mathlib.Omega.{arith}
+use borrow.Author.Needs.{needs}
 use denote.Ref.{now}
 use Rattle.joining.proofs.Joins.{push-one, push-none}
-use borrow.Author.Needs.{needs}
 use Rattle.joining.proofs.push.Statement.{statement}
 use Rattle.joining.proofs.push.Tie as tie
-use Rattle.joining.proofs.push.Reads as reads
-use Rattle.joining.proofs.push.Lts as lts
 
--- src/lib.rt:94:28
 enum-known-f : tie.Need-enum-known-f
 enum-known-f c = search needs
 
--- src/lib.rt:95:13
 mul-vars : tie.Need-mul-vars
 mul-vars c = search needs
 
--- src/lib.rt:95:13
 element-write-vars : tie.Need-element-write-vars
 element-write-vars c = search needs
 
--- src/lib.rt:96:13
 add-result : tie.Need-add-result
 add-result c = search needs
 
--- src/lib.rt:98:27
 enum-told : tie.Need-enum-told
 enum-told c = search needs
 
--- src/lib.rt:89:1
 returns : tie.Need-returns
 returns c =
     let s = c .before .before .before in
     let p = push-one (now (s .args .vars)) (s .args .n) _ (s .args .f) _ (omega (arith, s .pre .0, s .pre .1)) (c .before .f .given .1) in
     (p .0, p .1, p .2 ∙ s .pre .1)
 
--- src/lib.rt:89:1
 returns-2 : tie.Need-returns-2
 returns-2 c =
     let s = c .before .before in

@@ -1,15 +1,13 @@
+-- `sort` meets its contract. The four numbers held are those passed, in rising order, and no numbers after them. Assumes nothing.
 use mathlib.Core.Path.{refl}
 use Prim.Native.Nat.{_-_}
+use native.Mathlib.Omega.{arith}
 use lib.Ieee.{binary64}
 use denote.Ref.{now}
 use Rattle.quantile.specs.Rising.{at}
 use Rattle.quantile.proofs.Inserting.{Held, no-number, held-start, held-rises, held-more, held-end}
-use native.Mathlib.Omega.{arith}
 use Rattle.joining.proofs.sort.Statement.{statement}
 use Rattle.joining.proofs.sort.Tie as tie
-use Rattle.joining.proofs.sort.Reads as reads
-use Rattle.joining.proofs.sort.Lts as lts
-use Rattle.joining.proofs.insert.Reads as insert-reads
 
 abbrev Inv-loop : tie.InvT-loop
 Inv-loop vars n none least₀ k₀ least k = Held 4 (at vars) n k least
@@ -17,35 +15,27 @@ Inv-loop vars n none least₀ k₀ least k = Held 4 (at vars) n k least
 abbrev μ-loop : tie.MeasureT-loop
 μ-loop vars n none least₀ k₀ least k = n - k
 
--- src/lib.rt:122:5
 loop-holds : tie.Need-loop-holds Inv-loop μ-loop
 loop-holds c = held-start 4 (at (now (c .args .vars))) (c .args .n) _ (no-number binary64)
 
--- src/lib.rt:123:17
 mul-v : tie.Need-mul-v Inv-loop μ-loop
 mul-v c = omega arith
 
--- src/lib.rt:123:17
 element-copy-out-v : tie.Need-element-copy-out-v Inv-loop μ-loop
 element-copy-out-v c = omega arith
 
--- src/lib.rt:124:9
 insert-requires : tie.Need-insert-requires Inv-loop μ-loop
 insert-requires c κs = (held-rises (c .before .before .before .loop .inv), c .before .before .before .loop .inv .long)
 
--- src/lib.rt:125:9
 add-k : tie.Need-add-k Inv-loop μ-loop
 add-k c = omega arith
 
--- src/lib.rt:122:5
 loop-less : tie.Need-loop-less Inv-loop μ-loop
 loop-less c = omega arith
 
--- src/lib.rt:122:5
 loop-again : tie.Need-loop-again Inv-loop μ-loop
 loop-again c = held-more (c .before .before .before .before .loop .inv) (c .before .before .before .loop-test .taken) refl (c .insert .ensures)
 
--- src/lib.rt:115:1
 returns : tie.Need-returns Inv-loop μ-loop
 returns c = held-end (c .before .loop .inv) (c .loop-test .left)
 

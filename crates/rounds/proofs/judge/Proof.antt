@@ -1,26 +1,20 @@
-use Rattle.rounds.proofs.Bands.{judged-few, judged-high, judged-good}
+-- `judge` meets its contract, by the two tests. Assumes nothing.
 use borrow.Author.Needs.{needs}
+use Rattle.rounds.proofs.Bands.{judged-few, judged-high, judged-good}
 use Rattle.rounds.proofs.judge.Statement.{statement}
 use Rattle.rounds.proofs.judge.Tie as tie
-use Rattle.rounds.proofs.judge.Reads as reads
-use Rattle.rounds.proofs.judge.Lts as lts
-use Rattle.float.proofs.max64.Reads as max64-reads
 
--- src/lib.rt:192:9
 returns : tie.Need-returns
 returns c = judged-few (c .before .before .args .s) (c .before .before .args .image-var) (c .if1 .taken)
 
--- src/lib.rt:194:22
 max64-requires : tie.Need-max64-requires
 max64-requires c κs = search needs
 
--- src/lib.rt:195:9
 returns-2 : tie.Need-returns-2
 returns-2 c =
     let a = c .before .before .before .before .before .args in
     judged-high (a .s) (a .image-var) (c .before .before .before .if1 .left) (c .before .before .max64 .ensures) (c .if2 .taken)
 
--- src/lib.rt:188:1
 returns-3 : tie.Need-returns-3
 returns-3 c =
     let a = c .before .before .before .before .before .args in

@@ -1,19 +1,15 @@
+-- `next` meets its contract: it is its definition, operation by operation. Assumes nothing.
 use mathlib.Core.Path.{ap}
 use lib.Ieee.{Float, binary64, div}
+use borrow.Author.Needs.{needs}
 use Rattle.rounds.specs.Numbers.{moment}
 use Rattle.rounds.specs.Rounds.{next}
-use borrow.Author.Needs.{needs}
 use Rattle.rounds.proofs.next.Statement.{statement}
 use Rattle.rounds.proofs.next.Tie as tie
-use Rattle.rounds.proofs.next.Reads as reads
-use Rattle.rounds.proofs.next.Lts as lts
-use Rattle.sums.proofs.whole.Reads as whole-reads
 
--- src/lib.rt:174:13
 whole-requires : tie.Need-whole-requires
 whole-requires c κs = search needs
 
--- src/lib.rt:171:1
 returns : tie.Need-returns
 unfolding next
 returns c = ap (λ (x : Float). div binary64 (div binary64 (c .before .before .args .k .sum) x) moment) (c .before .whole .ensures)

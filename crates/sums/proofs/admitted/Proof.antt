@@ -1,18 +1,11 @@
-use mathlib.Core.Path.{_∙_}
+-- `admitted` meets its contract. After i blocks the sum is that of the first i blocks, and the count that of the windows passed. Assumes nothing.
 use Prim.Native.Nat.{_-_}
+use native.Mathlib.Omega.{arith}
 use lib.ListN.{length}
 use Rattle.sums.specs.Admitted.{blocks}
 use Rattle.sums.proofs.Sums.{Added, added-start, added-few, added-more, added-end}
-use native.Mathlib.Omega.{arith}
 use Rattle.sums.proofs.admitted.Statement.{statement}
 use Rattle.sums.proofs.admitted.Tie as tie
-use Rattle.sums.proofs.admitted.Reads as reads
-use Rattle.sums.proofs.admitted.Lts as lts
-use Rattle.sums.proofs.block.Reads as block-reads
-use Rattle.sums.proofs.block_len.Reads as block-len-reads
-use Rattle.sums.proofs.cut.Reads as cut-reads
-use Rattle.sums.proofs.threshold.Reads as threshold-reads
-use Rattle.std.proofs.num.f32_to_f64_with_nan.Reads as f32-to-f64-with-nan-reads
 
 abbrev Inv-loop : tie.InvT-loop
 Inv-loop gate op gate-var op-var t c sum₀ n₀ i₀ sum n i = Added t c gate op sum n i
@@ -20,61 +13,51 @@ Inv-loop gate op gate-var op-var t c sum₀ n₀ i₀ sum n i = Added t c gate o
 abbrev μ-loop : tie.MeasureT-loop
 μ-loop gate op gate-var op-var t c sum₀ n₀ i₀ sum n i = blocks (length gate) - i
 
--- src/lib.rt:36:9
 threshold-requires : tie.Need-threshold-requires Inv-loop μ-loop
 threshold-requires c κs = tt
 
--- src/lib.rt:37:9
 cut-requires : tie.Need-cut-requires Inv-loop μ-loop
 cut-requires c κs = tt
 
--- src/lib.rt:41:5
 loop-holds : tie.Need-loop-holds Inv-loop μ-loop
 loop-holds c = added-start _ _ _ _
 
--- src/lib.rt:41:11
 mul-loop : tie.Need-mul-loop Inv-loop μ-loop
 mul-loop c = omega arith
 
--- src/lib.rt:42:17
 mul-a : tie.Need-mul-a Inv-loop μ-loop
 mul-a c = omega arith
 
--- src/lib.rt:43:13
 block-len-requires : tie.Need-block-len-requires Inv-loop μ-loop
 block-len-requires c κs = omega arith
 
--- src/lib.rt:44:13
 block-requires : tie.Need-block-requires Inv-loop μ-loop
 block-requires c κs = omega arith
 
--- src/lib.rt:45:21
 f32-to-f64-with-nan-requires : tie.Need-f32-to-f64-with-nan-requires Inv-loop μ-loop
 f32-to-f64-with-nan-requires c κs = tt
 
--- src/lib.rt:46:13
 add-n : tie.Need-add-n Inv-loop μ-loop
 add-n c =
     let b = c .before .before in
-    omega (arith, added-few (added-more (b .before .before .before .loop .inv) (b .before .before .loop-test .taken)
-    (b .before .block-len .ensures) (b .block .ensures .0) (c .before .f32-to-f64-with-nan .ensures) (b .block .ensures .1)))
+    omega (
+      arith,
+      added-few (added-more (b .before .before .before .loop .inv) (b .before .before .loop-test .taken)
+          (b .before .block-len .ensures) (b .block .ensures .0) (c .before .f32-to-f64-with-nan .ensures) (b .block .ensures .1)),
+    )
 
--- src/lib.rt:47:9
 add-i : tie.Need-add-i Inv-loop μ-loop
 add-i c = omega arith
 
--- src/lib.rt:41:5
 loop-less : tie.Need-loop-less Inv-loop μ-loop
 loop-less c = omega arith
 
--- src/lib.rt:41:5
 loop-again : tie.Need-loop-again Inv-loop μ-loop
 loop-again c =
     let b = c .before .before in
     added-more (b .before .before .before .loop .inv) (b .before .before .loop-test .taken)
     (b .before .block-len .ensures) (b .block .ensures .0) (c .before .f32-to-f64-with-nan .ensures) (b .block .ensures .1)
 
--- src/lib.rt:32:1
 returns : tie.Need-returns Inv-loop μ-loop
 returns c =
     let a = c .before .before .before .before .before .before .args in

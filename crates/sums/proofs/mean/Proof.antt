@@ -1,20 +1,15 @@
-use Rattle.sums.proofs.Starts.{mean-none, mean-is}
+-- `mean` meets its contract, by the test. Assumes nothing.
 use borrow.Author.Needs.{needs}
+use Rattle.sums.proofs.Starts.{mean-none, mean-is}
 use Rattle.sums.proofs.mean.Statement.{statement}
 use Rattle.sums.proofs.mean.Tie as tie
-use Rattle.sums.proofs.mean.Reads as reads
-use Rattle.sums.proofs.mean.Lts as lts
-use Rattle.sums.proofs.whole.Reads as whole-reads
 
--- src/lib.rt:287:36
 whole-requires : tie.Need-whole-requires
 whole-requires c κs = search needs
 
--- src/lib.rt:284:1
 returns : tie.Need-returns
 returns c = mean-none (c .before .args .sum) (c .before .args .n) (c .if1 .taken)
 
--- src/lib.rt:284:1
 returns-2 : tie.Need-returns-2
 returns-2 c =
     mean-is (c .before .before .args .sum) (c .before .before .args .n) (c .before .if1 .left) (c .whole .ensures)

@@ -1,25 +1,19 @@
+-- `threshold` meets its contract: it is its definition, operation by operation. Assumes nothing.
 use mathlib.Core.Path.{_∙_, ap}
 use lib.Ieee.{Float, binary32, binary64, mul}
+use borrow.Author.Needs.{needs}
 use Rattle.ieee.specs.Convert.{convert}
 use Rattle.sums.specs.Numbers.{gate}
 use Rattle.sums.specs.Admitted.{threshold}
-use borrow.Author.Needs.{needs}
 use Rattle.sums.proofs.threshold.Statement.{statement}
 use Rattle.sums.proofs.threshold.Tie as tie
-use Rattle.sums.proofs.threshold.Reads as reads
-use Rattle.sums.proofs.threshold.Lts as lts
-use Rattle.float.proofs.max64.Reads as max64-reads
-use Rattle.float.proofs.to_f32.Reads as to-f32-reads
 
--- src/lib.rt:56:26
 max64-requires : tie.Need-max64-requires
 max64-requires c κs = search needs
 
--- src/lib.rt:56:5
 to-f32-requires : tie.Need-to-f32-requires
 to-f32-requires c κs = search needs
 
--- src/lib.rt:53:1
 returns : tie.Need-returns
 unfolding threshold
 returns c = c .to-f32 .ensures ∙ ap (λ (x : Float). convert binary32 (mul binary64 gate x)) (c .before .max64 .ensures)
