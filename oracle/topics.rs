@@ -1,7 +1,7 @@
 //! The topics: a file each, named here. What a topic calls that is not among the library's C calls, a module of crates/compare
 //! exports for it.
 
-use crate::{images::Image, random, speed::beside, value::Value, Run, Stored, Topic};
+use crate::{images, images::Image, random, speed::beside, value::Value, Run, Stored, Topic};
 
 mod edge;
 mod floats;
@@ -9,9 +9,13 @@ mod grid;
 mod gradients;
 mod known;
 mod model;
+mod noise;
 mod patterns;
 mod sample;
 mod window;
+
+pub const ALL: &[Topic] =
+    &[known::TOPIC, floats::TOPIC, window::TOPIC, grid::TOPIC, sample::TOPIC, noise::TOPIC, noise::LARGE, patterns::TOPIC];
 
 pub const ALL: &[Topic] = &[
     known::TOPIC,
