@@ -14,17 +14,16 @@ mod patterns;
 mod sample;
 mod window;
 
-pub const ALL: &[Topic] =
-    &[known::TOPIC, floats::TOPIC, window::TOPIC, grid::TOPIC, sample::TOPIC, noise::TOPIC, noise::LARGE, patterns::TOPIC];
-
 pub const ALL: &[Topic] = &[
     known::TOPIC,
     floats::TOPIC,
     window::TOPIC,
     grid::TOPIC,
     sample::TOPIC,
+    noise::TOPIC,
     gradients::TOPIC,
     model::TOPIC,
     edge::TOPIC,
+    noise::LARGE,
     patterns::TOPIC,
 ];
