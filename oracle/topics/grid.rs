@@ -11,7 +11,7 @@ unsafe extern "C" {
     safe fn vuzgari_compare_step(w: usize, h: usize, windows: usize) -> usize;
     safe fn vuzgari_compare_first_x(j: usize, s: usize) -> usize;
     safe fn vuzgari_compare_row_count(w: usize, s: usize, j: usize) -> usize;
-    pub safe fn vuzgari_compare_total(w: usize, h: usize, windows: usize) -> usize;
+    pub safe fn vuzgari_compare_windows(w: usize, h: usize, windows: usize) -> usize;
     safe fn vuzgari_compare_needed(w: usize, h: usize) -> usize;
 }
 
@@ -38,7 +38,7 @@ fn compare(run: &mut Run) {
     let seeded: Vec<_> = repeat_with(|| (side(), side())).take(run.size(GATE) as usize).collect();
     let sides = || corners.iter().chain(&seeded).copied();
     let passes = sides().flat_map(|(w, h)| PASSES.map(|n| (w, h, n)));
-    run.same("windows of a pass", passes, |&(w, h, n)| vuzgari_compare_total(w, h, n), |&(w, h, n)| total(w, h, n));
+    run.same("windows of a pass", passes, |&(w, h, n)| vuzgari_compare_windows(w, h, n), |&(w, h, n)| total(w, h, n));
     run.same("windows that memory is needed for", sides(), |&(w, h)| vuzgari_compare_needed(w, h), |&(w, h)| needed(w, h));
 }
 

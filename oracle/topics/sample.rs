@@ -115,7 +115,7 @@ fn ours(lid: &Lid) -> Pass {
     const FILL: (i32, f32, usize) = (-77, 0.5, 99);
     let &Image { w, h, .. } = &lid.image;
     let img = lid.pixels();
-    let t = vuzgari_compare_total(w, h, lid.windows);
+    let t = vuzgari_compare_windows(w, h, lid.windows);
     let (mut ints, mut floats, mut counts) = (vec![FILL.0; 3 * t + 5], vec![FILL.1; 2 * t + 4], vec![FILL.2; 6]);
     collect(&img, w, h, lid.windows, &mut ints, &mut floats, &mut counts);
     let five: [usize; 5] = counts[..5].try_into().unwrap();
@@ -158,7 +158,7 @@ fn speed() {
         for (name, kind) in [("flat", 0), ("any bytes", BYTES)] {
             for windows in PASSES {
                 let img = Lid { image: Image { w, h, kind, seed: 3 }, windows }.pixels();
-                let t = vuzgari_compare_total(w, h, windows);
+                let t = vuzgari_compare_windows(w, h, windows);
                 let memory = RefCell::new((vec![0i32; 3 * t], vec![0f32; 2 * t + 2], vec![0usize; 5]));
                 let ours = |_: &()| {
                     let (ints, floats, counts) = &mut *memory.borrow_mut();

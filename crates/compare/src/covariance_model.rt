@@ -78,7 +78,10 @@ pub extern "C" fn vuzgari_compare_model(
         count,
         floor,
     };
-    lay(s.model(covariance_of(noise), u, width_of(known, w), grid), out)
+    lay(
+        s.model(covariance_of(noise), u, width_of(known, w), grid),
+        out,
+    )
 }
 
 // The number, and the model's eight floats.

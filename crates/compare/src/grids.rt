@@ -30,7 +30,7 @@ pub extern "C" fn vuzgari_compare_row_count(w: usize, s: usize, j: usize) -> usi
 }
 
 #[no_mangle]
-pub extern "C" fn vuzgari_compare_total(w: usize, h: usize, windows: usize) -> usize
+pub extern "C" fn vuzgari_compare_windows(w: usize, h: usize, windows: usize) -> usize
     requires { ⌜ Sides w h × (1 ≤ windows) ⌝ }
     ensures { λ r. ⌜ r ≡ totalOf w h windows ⌝ }
 {

@@ -4,6 +4,6 @@ pub mod covariance_model;
 mod covariances;
 pub mod floats;
 pub mod grids;
+pub mod pixel_gradients;
 pub mod samples;
 pub mod windows;
-pub mod pixel_gradients;

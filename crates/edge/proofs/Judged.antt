@@ -77,6 +77,7 @@ pixel-small l w h o x y b = cond-both (λ (n : ℕ). n ≤ 255) (eqb w 0 || eqb 
 pub samples-upto : (l : List ℕ) (w h : ℕ) (origin centre : List ℤ) (samples : List Float) → samples ≡ inRows (tile l w h origin centre) 289 → ((i : ℕ) → getD l i 0 ≤ 255)
     → (k : ℕ) → k < 289 → Upto 255 (getD samples k nan)
 samples-upto l w h origin centre samples s b k g = record {
-    number = pixel l w h origin _ _;
-    is = ap (λ (t : List Float). getD t k nan) s ∙ getD-from (λ i. tile l w h origin centre (i / 17) (i % 17)) nan 289 0 k g;
-    small = pixel-small l w h origin _ _ b }
+  number = pixel l w h origin _ _;
+  is = ap (λ (t : List Float). getD t k nan) s ∙ getD-from (λ i. tile l w h origin centre (i / 17) (i % 17)) nan 289 0 k g;
+  small = pixel-small l w h origin _ _ b;
+}

@@ -4,12 +4,17 @@ ghost use mathlib.Core.List.{[], _∷_};
 ghost use Rattle.tile.specs.Width.{answer};
 ghost use Rattle.edge.specs.Edge.{edge};
 ghost use Rattle.edge.specs.Code as Code;
-
 use tile::EdgeWidth;
 use tile::PixelTile;
 
 // The width of the edges about the centre, or the first of 1, 2, 8, 9 that applies.
-pub fn edge_width(pixels: &[u8], width: usize, height: usize, origin: [i32; 2], centre: [i32; 2]) -> EdgeWidth
+pub fn edge_width(
+    pixels: &[u8],
+    width: usize,
+    height: usize,
+    origin: [i32; 2],
+    centre: [i32; 2],
+) -> EdgeWidth
     ensures { λ r. ⌜ answer r ≡ edge (now (pixels .entry)) width height origin centre ⌝ }
 {
     let refused = imageview::judge(pixels, width, height);

@@ -46,5 +46,6 @@ inside l w h origin x y column row p q c r =
   where
     some : (n k : ℕ) → k < n → n ≡ 0 → ⊥
     some n k h e = omega arith
+
     under : (n k : ℕ) → k < n → min k (n - 1) ≡ k
     under n k h = omega arith

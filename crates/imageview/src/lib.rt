@@ -121,7 +121,14 @@ impl<'a> ImageView<'a> {
 }
 
 // The sample at (x, y) of the view of a slice, for a caller that has no view.
-pub fn view_sample(pixels: &[u8], width: usize, height: usize, origin: [i32; 2], x: i32, y: i32) -> f32
+pub fn view_sample(
+    pixels: &[u8],
+    width: usize,
+    height: usize,
+    origin: [i32; 2],
+    x: i32,
+    y: i32,
+) -> f32
     requires { ⌜ length (now pixels) ≡ width * height ⌝ }
     ensures { λ r. ⌜ r ≡ sample (now (pixels .entry)) width height origin x y ⌝ }
 {

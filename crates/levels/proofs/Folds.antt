@@ -20,8 +20,10 @@ module _ {A B : Type 0} {step : B → A → B} {l : List A} {start : B} where
   fold-start = record { low = omega arith; same = refl }
 
   pub fold-put : {now next : B} {k : ℕ} (d : A) → Folding step l start now k → k < length l → next ≡ step now (getD l k d) → Folding step l start next (k + 1)
-  fold-put {now} {next} {k} d f h e = record { low = omega arith;
-      same = ap (λ (b : B). foldl step b (drop (k + 1) l)) e ∙ ap (λ (m : List A). foldl step now m) (sym next-is) ∙ f .same }
+  fold-put {now} {next} {k} d f h e = record {
+    low = omega arith;
+    same = ap (λ (b : B). foldl step b (drop (k + 1) l)) e ∙ ap (λ (m : List A). foldl step now m) (sym next-is) ∙ f .same;
+  }
     where
       next-is : drop k l ≡ getD l k d ∷ drop (k + 1) l
       next-is = rw (add-one k) (drop-cons l k d h)

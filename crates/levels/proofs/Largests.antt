@@ -116,14 +116,15 @@ module _ {old top : List Float} {v : Float} {j : ℕ} (c : Climbing old v j top)
 
   pub climb-more : j < 7 → {x : Float} → x ≡ getD top (j + 1) nan → totalLess v x ≡ false → Climbing old v (j + 1) (set top j x)
   climb-more h {x} e t = record {
-      low = omega arith;
-      long = length-set top j x ∙ c .long;
-      later = drop-after (j + 1 + 1) x (omega arith) ∙ sym (drop-drop 1 (j + 1) top) ∙ ap (drop 1) (c .later) ∙ drop-drop 1 (j + 1) old;
-      same = ap (λ (l : List Float). take (j + 1) (set top j x) ++ inserted v l) (drop-after (j + 1 + 1) x (omega arith))
+    low = omega arith;
+    long = length-set top j x ∙ c .long;
+    later = drop-after (j + 1 + 1) x (omega arith) ∙ sym (drop-drop 1 (j + 1) top) ∙ ap (drop 1) (c .later) ∙ drop-drop 1 (j + 1) old;
+    same = ap (λ (l : List Float). take (j + 1) (set top j x) ++ inserted v l) (drop-after (j + 1 + 1) x (omega arith))
         ∙ ap (λ (l : List Float). l ++ inserted v (drop (j + 1 + 1) top)) taken
         ∙ append-snoc (take j top) x (inserted v (drop (j + 1 + 1) top))
         ∙ ap (λ (l : List Float). take j top ++ l) (sym (ap (inserted v) (rest-is h ∙ ap (λ (z : Float). z ∷ drop (j + 1 + 1) top) (sym e)) ∙ less-later v x (drop (j + 1 + 1) top) t))
-        ∙ c .same }
+        ∙ c .same;
+  }
     where
       taken : take (j + 1) (set top j x) ≡ take j top ++ (x ∷ [])
       taken = rw (add-one j) (take-suc-set top j x (omega (arith, c .long, h)))
@@ -217,20 +218,25 @@ keep-start g = record { low = omega arith; long = refl; all = (tt, (tt, (tt, (tt
 
 pub keep-put : {g top top′ : List Float} {m : ℕ} → length g ≡ 81 → AllClear g → Kept g m top → m < 81 → top′ ≡ drop 1 (inserted (getD g m nan) top) → Kept g (m + 1) top′
 keep-put {g} {top} {top′} {m} long c k h e = record {
-    low = omega arith;
-    long = ap length e ∙ length-drop 1 (inserted v top) ∙ go (length (inserted v top)) (length-inserted v top ∙ ap suc (k .long));
-    all = subst AllClear (sym e) (clear-rest (inserted v top) (clear-inserted v top v-clear (k .all)));
-    same = e ∙ ap (λ (l : List Float). drop 1 (inserted v l)) (k .same) ∙ sym (drop-inserted v all-so-far rises m)
-      ∙ ap (drop (suc m)) (after-zeros v v-clear 8 (rising (at g) m)) ∙ sym (ap (λ (i : ℕ). drop i (replicate 8 none ++ rising (at g) i)) (add-one m)) }
+  low = omega arith;
+  long = ap length e ∙ length-drop 1 (inserted v top) ∙ go (length (inserted v top)) (length-inserted v top ∙ ap suc (k .long));
+  all = subst AllClear (sym e) (clear-rest (inserted v top) (clear-inserted v top v-clear (k .all)));
+  same = e ∙ ap (λ (l : List Float). drop 1 (inserted v l)) (k .same) ∙ sym (drop-inserted v all-so-far rises m)
+      ∙ ap (drop (suc m)) (after-zeros v v-clear 8 (rising (at g) m)) ∙ sym (ap (λ (i : ℕ). drop i (replicate 8 none ++ rising (at g) i)) (add-one m));
+}
   where
     v : Float
     v = getD g m nan
+
     v-clear : T (clear (getD g m nan))
     v-clear = clear-at g c m (omega (arith, long, h))
+
     all-so-far : List Float
     all-so-far = replicate 8 none ++ rising (at g) m
+
     rises : Rises (replicate 8 none ++ rising (at g) m)
     rises = zeros-rise 8 (rising (at g) m) (clear-rising g c m (omega (arith, long, h))) (rising-rises (at g) m)
+
     go : (n : ℕ) → n ≡ suc 8 → n - 1 ≡ 8
     go n e = omega arith
 

@@ -77,6 +77,7 @@ less-at (fin false m e) (fin false n d) a b g h =
       where
         one : (m a p : ℕ) → m * 1 ≡ a * p → m ≡ a * p
         one m a p g = omega arith
+
     scaled : (a b c : ℕ) → 0 < c → ltb (a * c) (b * c) ≡ ltb a b
     scaled a b c C = go (ltb a b) refl
       where

@@ -111,4 +111,3 @@ add-clear f (fin false m e) (inf true) p q = absurd q
 add-clear f (fin false m e) (inf false) p q = tt
 add-clear f (fin false m e) (fin true n d) p q = absurd q
 add-clear f (fin false m e) (fin false n d) p q = round-clear f (m * up e * down d + n * up d * down e) (down e * down d)
-

@@ -1,6 +1,9 @@
 -- Every starred reading of document 01 holds: each row is computed. Assumes nothing.
 use mathlib.Core.Path.{refl}
-use lib.Ieee.{ofInt, round}
+use lib.Ieee.{ofInt, round, lt, le, eq, add, sub, mul, div}
+use Rattle.ieee.specs.Order.{finite}
+use Rattle.model.specs.Ranges.{within, upTo}
+use Rattle.model.specs.Knots.{knotsNumber, place, column, atOf}
 use Rattle.ieee.specs.Convert.{convert}
 use Rattle.window.specs.Window.{statsOf, gate}
 use Rattle.sample.specs.Bands.{bandOf}
@@ -8,6 +11,6 @@ use Rattle.grid.specs.Step.{stepOf}
 use Rattle.readings.specs.Listing.{listing, AllHold}
 
 pub readings : AllHold listing
-unfolding ofInt round convert statsOf gate bandOf stepOf
+unfolding ofInt round convert statsOf gate bandOf stepOf atOf knotsNumber place column within upTo finite lt le eq add sub mul div
 readings =
-    (refl, (refl, (refl, (refl, (refl, (refl, (refl, (refl, (refl, (refl, (refl, (refl, (refl, (refl, (refl, (refl, (refl, (refl, (((refl, refl), (refl, refl)), (((refl, refl), (refl, refl)), tt))))))))))))))))))))
+    (refl, (refl, (refl, (refl, (refl, (refl, (refl, (refl, (refl, (refl, (refl, (refl, (refl, (refl, (refl, (refl, (refl, (refl, (((refl, refl), (refl, refl)), (((refl, refl), (refl, refl)), (refl, tt)))))))))))))))))))))

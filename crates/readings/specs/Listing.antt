@@ -4,9 +4,13 @@ use mathlib.Core.Bool.{false}
 use mathlib.Core.List.{List, [], _∷_, _++_, map}
 use Prim.Native.Nat.{ℕ}
 use lib.IntN.{pos}
-use lib.Ieee.{binary32, binary64, ofInt}
+use lib.Ieee.{Float, binary32, binary64, ofInt, round}
 use lib.Ieee.Exact.{HasValue}
 use Rattle.ieee.specs.Convert.{convert}
+use Rattle.model.specs.declared.Width.the-variants.{Known}
+use Rattle.model.specs.Arith.{plusZero}
+use Rattle.model.specs.Knots.{atOf}
+use Rattle.model.proofs.Laws.{table}
 use Rattle.window.specs.Readings.{windowReadings, Reads}
 use Rattle.window.specs.Readings as Window
 use Rattle.sample.specs.Bands.{bandOf}
@@ -15,6 +19,20 @@ use Rattle.grid.specs.Step.{stepOf}
 use Rattle.grid.specs.Grid.{firstX}
 use Rattle.grid.specs.Needed.{firstW}
 use Rattle.grid.proofs.Known.{StepRow, steps, FirstRow, firsts}
+
+pub record Pair : Type 0 where
+  pub fst : ℕ
+  pub snd : ℕ
+
+abbrev pub pair : ℕ → ℕ → Pair
+pair a b = record { fst = a; snd = b }
+
+-- n / 8 as an f32
+abbrev pub eighths : ℕ → Float
+eighths n = round binary32 false n 8
+
+abbrev pub column : Pair → List Float
+column p = eighths (p .fst) ∷ eighths (p .snd) ∷ []
 
 pub data Reading : Type 0 where
   -- a window, and its sum, gate and output
@@ -27,6 +45,8 @@ pub data Reading : Type 0 where
   first : FirstRow → Reading
   -- a whole number, and the one that it is rounded to in f32
   rounding : ℕ → ℕ → Reading
+  -- the widths, gains and residuals of two knots, and the gain and the residual at a width, all in eighths
+  knots : Pair → Pair → Pair → ℕ → Pair → Reading
 
 -- what a row says
 abbrev pub Holds : Reading → Type 0
@@ -35,11 +55,14 @@ Holds (band r) = bandOf (pos (r .sum)) ≡ r .band
 Holds (step r) = stepOf (r .pixels) firstW ≡ r .step
 Holds (first r) = firstX (r .row) (r .step) ≡ r .first
 Holds (rounding n r) = HasValue (ofInt binary32 (pos n)) false r 1 × HasValue (convert binary32 (ofInt binary64 (pos n))) false r 1
+Holds (knots widths gains residuals width figures) =
+    atOf (table 2 plusZero (column widths) (column gains) (column residuals)) (Known (eighths width))
+    ≡ record { number = 0; gain = eighths (figures .fst); residual = eighths (figures .snd) }
 
 abbrev pub listing : List Reading
 listing =
     map window windowReadings
-    ++ (map band bands ++ (map step steps ++ (map first firsts ++ (rounding 16777217 16777216 ∷ rounding 16777219 16777220 ∷ []))))
+    ++ (map band bands ++ (map step steps ++ (map first firsts ++ (rounding 16777217 16777216 ∷ rounding 16777219 16777220 ∷ knots (pair 8 16) (pair 4 2) (pair 0 8) 12 (pair 3 4) ∷ []))))
 
 -- every row of a listing holds
 abbrev pub AllHold : List Reading → Type 0

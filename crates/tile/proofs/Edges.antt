@@ -51,5 +51,6 @@ module _ (samples rows smooth grads : List Float) (p : rows ≡ inRows (down (re
       where
         vals-are : vals ≡ values (smoothed (read samples))
         vals-are = v ∙ values-same (read smooth) (smoothed (read samples)) (smooth-read (read samples) rows smooth p q)
+
         contrast-is : contrast ≡ sub binary32 (highLevel (values (smoothed (read samples)))) (lowLevel (values (smoothed (read samples))))
         contrast-is = c ∙ (λ i. sub binary32 (highLevel (vals-are i)) (lowLevel (vals-are i)))

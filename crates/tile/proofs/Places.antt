@@ -42,10 +42,11 @@ place-inner m h =
     let a = and-l (leb 1 (k / 17) && leb (k / 17) 11) (leb 1 (k % 17) && leb (k % 17) 11) t in
     let b = and-r (leb 1 (k / 17) && leb (k / 17) 11) (leb 1 (k % 17) && leb (k % 17) 11) t in
     record {
-    row-from = leb→le 1 (k / 17) (and-l (leb 1 (k / 17)) (leb (k / 17) 11) a);
-    row-upto = leb→le (k / 17) 11 (and-r (leb 1 (k / 17)) (leb (k / 17) 11) a);
-    column-from = leb→le 1 (k % 17) (and-l (leb 1 (k % 17)) (leb (k % 17) 11) b);
-    column-upto = leb→le (k % 17) 11 (and-r (leb 1 (k % 17)) (leb (k % 17) 11) b) }
+      row-from = leb→le 1 (k / 17) (and-l (leb 1 (k / 17)) (leb (k / 17) 11) a);
+      row-upto = leb→le (k / 17) 11 (and-r (leb 1 (k / 17)) (leb (k / 17) 11) a);
+      column-from = leb→le 1 (k % 17) (and-l (leb 1 (k % 17)) (leb (k % 17) 11) b);
+      column-upto = leb→le (k % 17) 11 (and-r (leb 1 (k % 17)) (leb (k % 17) 11) b);
+    }
 
 -- the squared gradient at the m-th place k, from the four places around it
 pub squared-at : (l : List Float) (k m : ℕ) → m < 81 → k ≡ getD disk m 0
@@ -88,6 +89,7 @@ read-rows t n y x h g =
   where
     row : (y x : ℕ) → x < 17 → (0 + (y * 17 + x)) / 17 ≡ y
     row y x h = omega arith
+
     column : (y x : ℕ) → x < 17 → (0 + (y * 17 + x)) % 17 ≡ x
     column y x h = omega arith
 

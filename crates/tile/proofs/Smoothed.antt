@@ -25,12 +25,14 @@ use Rattle.tile.proofs.Places.{disk-long, place-inner}
 
 pub binomial-upto : (n : ℕ) {a b c d e : Float} → 16 * n ≤ 2 ^ 24 → Upto n a → Upto n b → Upto n c → Upto n d → Upto n e → Upto (16 * n) (binomial a b c d e)
 binomial-upto n {a} {b} {c} {d} {e} h p q r s t = record {
-    number = p .number + t .number + 4 * (q .number + s .number) + 6 * r .number;
-    is = five (p .is) (q .is) (r .is) (s .is) (t .is) ∙ exact (p .number) (q .number) (r .number) (s .number) (t .number) n h (p .small) (q .small) (r .small) (s .small) (t .small);
-    small = bound (p .number) (q .number) (r .number) (s .number) (t .number) n (p .small) (q .small) (r .small) (s .small) (t .small) }
+  number = p .number + t .number + 4 * (q .number + s .number) + 6 * r .number;
+  is = five (p .is) (q .is) (r .is) (s .is) (t .is) ∙ exact (p .number) (q .number) (r .number) (s .number) (t .number) n h (p .small) (q .small) (r .small) (s .small) (t .small);
+  small = bound (p .number) (q .number) (r .number) (s .number) (t .number) n (p .small) (q .small) (r .small) (s .small) (t .small);
+}
   where
     bound : (a b c d e n : ℕ) → a ≤ n → b ≤ n → c ≤ n → d ≤ n → e ≤ n → a + e + 4 * (b + d) + 6 * c ≤ 16 * n
     bound a b c d e n p q r s t = omega arith
+
     exact : (a b c d e n : ℕ) → 16 * n ≤ 2 ^ 24 → a ≤ n → b ≤ n → c ≤ n → d ≤ n → e ≤ n
         → binomial (whole a) (whole b) (whole c) (whole d) (whole e) ≡ whole (a + e + 4 * (b + d) + 6 * c)
     exact a b c d e n h p q r s t =
@@ -99,6 +101,7 @@ sums-exact s h p =
   where
     values-long : length (values s) ≡ 81
     values-long = length-map disk (λ k. s (k / 17) (k % 17)) ∙ disk-long
+
     at : (m : ℕ) → m < 81 → Upto 65280 (getD (values s) m nan)
     at m l =
         let q = place-inner m l in

@@ -14,7 +14,87 @@ ghost use Rattle.tile.specs.Width.{answer, edgeOf};
 
 // The places of the disk in rows of 17: dx² + dy² ≤ 25, rows first.
 const EDGE_DISK: [u8; 81] = [
-    23, 37, 38, 39, 40, 41, 42, 43, 53, 54, 55, 56, 57, 58, 59, 60, 61, 70, 71, 72, 73, 74, 75, 76, 77, 78, 87, 88, 89, 90, 91, 92, 93, 94, 95, 103, 104, 105, 106, 107, 108, 109, 110, 111, 112, 113, 121, 122, 123, 124, 125, 126, 127, 128, 129, 138, 139, 140, 141, 142, 143, 144, 145, 146, 155, 156, 157, 158, 159, 160, 161, 162, 163, 173, 174, 175, 176, 177, 178, 179, 193,
+    23,
+    37,
+    38,
+    39,
+    40,
+    41,
+    42,
+    43,
+    53,
+    54,
+    55,
+    56,
+    57,
+    58,
+    59,
+    60,
+    61,
+    70,
+    71,
+    72,
+    73,
+    74,
+    75,
+    76,
+    77,
+    78,
+    87,
+    88,
+    89,
+    90,
+    91,
+    92,
+    93,
+    94,
+    95,
+    103,
+    104,
+    105,
+    106,
+    107,
+    108,
+    109,
+    110,
+    111,
+    112,
+    113,
+    121,
+    122,
+    123,
+    124,
+    125,
+    126,
+    127,
+    128,
+    129,
+    138,
+    139,
+    140,
+    141,
+    142,
+    143,
+    144,
+    145,
+    146,
+    155,
+    156,
+    157,
+    158,
+    159,
+    160,
+    161,
+    162,
+    163,
+    173,
+    174,
+    175,
+    176,
+    177,
+    178,
+    179,
+    193,
 ];
 
 // A width, or document 01's number.
@@ -42,7 +122,13 @@ fn down(tile: &[f32; 289]) -> [f32; 221]
     let mut out = [0.0f32; 221];
     let mut k = 0;
     while k < 221 {
-        out[k] = binomial(tile[k], tile[k + 17], tile[k + 34], tile[k + 51], tile[k + 68]);
+        out[k] = binomial(
+            tile[k],
+            tile[k + 17],
+            tile[k + 34],
+            tile[k + 51],
+            tile[k + 68],
+        );
         k += 1;
     }
     out
@@ -115,7 +201,13 @@ fn near(c: i32, i: usize) -> i32
 
 impl PixelTile {
     // The samples about the centre.
-    pub fn load(pixels: &[u8], width: usize, height: usize, origin: [i32; 2], centre: [i32; 2]) -> Self
+    pub fn load(
+        pixels: &[u8],
+        width: usize,
+        height: usize,
+        origin: [i32; 2],
+        centre: [i32; 2],
+    ) -> Self
         requires { ⌜ (length (now pixels) ≡ width * height) × (natAbs (getD centre 0 (pos 0)) ≤ 1000000) × (natAbs (getD centre 1 (pos 0)) ≤ 1000000) ⌝ }
         ensures { λ r. ⌜ r .samples ≡ inRows (tile (now (pixels .entry)) width height origin centre) 289 ⌝ }
     {

@@ -59,7 +59,7 @@ returns-4 c =
     let s = j .before .before .args in
     c .edge-width .ensures
     ∙ answer-is (now (s .pixels)) (s .width) (s .height) (s .origin) (s .centre) (j .judge .ensures) (f .before .if1 .left)
-      (sym (f .far-place .ensures) ∙ b .before .before .if2 .left) (sym (b .before .far-place2 .ensures) ∙ b .if3 .left) (c .before .load .result .samples) (c .before .load .ensures)
+    (sym (f .far-place .ensures) ∙ b .before .before .if2 .left) (sym (b .before .far-place2 .ensures) ∙ b .if3 .left) (c .before .load .result .samples) (c .before .load .ensures)
 
 pub edge-width-spec : {M : Type 1} → statement M
 edge-width-spec =

@@ -48,12 +48,16 @@ loop-again c =
     let k = d .before .args .cut in
     let x = getD (now (d .before .args .values)) (d .loop .m) nan in
     ⊎-elim
-    (λ w.
-      (fold-put nan (d .loop .inv .0) (omega arith) (w .1 ∙ chosen (le x k) (add binary32 (d .loop .sum) x) (d .loop .sum) (w .0 .taken)),
-      fold-put nan (d .loop .inv .1) (omega arith) (w .2 ∙ chosen (le x k) (d .loop .n + 1) (d .loop .n) (w .0 .taken)), omega arith))
-    (λ w.
-      (fold-put nan (d .loop .inv .0) (omega arith) (w .1 ∙ passed (le x k) (add binary32 (d .loop .sum) x) (d .loop .sum) (w .0 .left)),
-      fold-put nan (d .loop .inv .1) (omega arith) (w .2 ∙ passed (le x k) (d .loop .n + 1) (d .loop .n) (w .0 .left)), omega arith))
+    (λ w. (
+      fold-put nan (d .loop .inv .0) (omega arith) (w .1 ∙ chosen (le x k) (add binary32 (d .loop .sum) x) (d .loop .sum) (w .0 .taken)),
+      fold-put nan (d .loop .inv .1) (omega arith) (w .2 ∙ chosen (le x k) (d .loop .n + 1) (d .loop .n) (w .0 .taken)),
+      omega arith,
+    ))
+    (λ w. (
+      fold-put nan (d .loop .inv .0) (omega arith) (w .1 ∙ passed (le x k) (add binary32 (d .loop .sum) x) (d .loop .sum) (w .0 .left)),
+      fold-put nan (d .loop .inv .1) (omega arith) (w .2 ∙ passed (le x k) (d .loop .n + 1) (d .loop .n) (w .0 .left)),
+      omega arith,
+    ))
     (c .if1 .came)
 
 mean-requires : tie.Need-mean-requires Inv-loop μ-loop
@@ -66,7 +70,7 @@ returns c =
     let l = now (d .before .args .values) in
     c .mean .ensures
     ∙ ap (λ (z : Float). div binary32 z (whole (max (d .loop .n) 1)))
-      (fold-end (d .loop .inv .0) (omega arith) ∙ foldl-kept (add binary32) (λ x. le x k) (ofBits binary32 0) l ∙ ap (λ (z : Float). foldl (add binary32) z (kept (λ x. le x k) l)) zero-is)
+    (fold-end (d .loop .inv .0) (omega arith) ∙ foldl-kept (add binary32) (λ x. le x k) (ofBits binary32 0) l ∙ ap (λ (z : Float). foldl (add binary32) z (kept (λ x. le x k) l)) zero-is)
     ∙ ap (λ (n : ℕ). div binary32 (total (kept (λ x. le x k) l)) (whole (max n 1))) (fold-end (d .loop .inv .1) (omega arith) ∙ count-kept (λ x. le x k) l)
 
 pub mean-upto-spec : {M : Type 1} → statement M

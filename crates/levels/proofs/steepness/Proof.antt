@@ -22,7 +22,7 @@ returns : tie.Need-returns
 unfolding steepness
 returns c =
     let e : c .add-roots .result ≡ total (map (sqrt binary32) (largest (now (c .before .before .before .args .gradients))))
-          = c .add-roots .ensures ∙ ap (λ (l : List Float). total (map (sqrt binary32) l)) (c .before .before .largest .ensures) in
+    = c .add-roots .ensures ∙ ap (λ (l : List Float). total (map (sqrt binary32) l)) (c .before .before .largest .ensures) in
     λ i. div binary32 (mul binary32 (half-is i) (e i)) (eight-is i)
 
 pub steepness-spec : {M : Type 1} → statement M

@@ -33,6 +33,7 @@ returns c =
   where
     inside : (m : ℕ) → 1 ≤ getD disk m 0 / 17 → {r : ℕ} → r ≡ getD disk m 0 → 17 ≤ r
     inside m h {r} e = omega arith
+
     under : (m : ℕ) → getD disk m 0 / 17 ≤ 11 → getD disk m 0 % 17 ≤ 11 → {r : ℕ} → r ≡ getD disk m 0 → r + 17 < 217
     under m h g {r} e = omega arith
 

@@ -155,7 +155,7 @@ module _ {M : Type 1} (𝓤 : URA M) (H : Heap 𝓤) (A : Atoms 𝓤) (W : Given
       assigns ! (of-opd ! (load ! (from ! (fld ! refl (stop !))) (look-in ! 12 (sub ! 3 refl (part !))))) (from ! (stop !)) (init ! 0 refl (tt, wt .1 .1 .1 .1 .0)) $
       move ! (16 ∷ []) $ use1 W (raw (At 𝓤 H A mem run .pre to) ⊛ ‵ All) goes $ split ! $
       calls-at ! fm (At 𝓤 H A mem run) known to (and-then ! (load ! (from ! (stop !)) (look ! 8 refl)) (and-then ! (load ! (from ! (stop !)) (look ! 6 refl)) (and-then ! (load ! (from ! (stop !)) (look ! 4 refl)) (and-then ! (load ! (from ! (stop !)) (look ! 2 refl))
-        (and-then ! (load ! (from ! (stop !)) (look ! 12 refl)) (and-then ! (load ! (from ! (stop !)) (look ! 10 refl)) (no-more !))))))) (λ u.
+      (and-then ! (load ! (from ! (stop !)) (look ! 12 refl)) (and-then ! (load ! (from ! (stop !)) (look ! 10 refl)) (no-more !))))))) (λ u.
       use1 W (later (some (λ (r : Float). ((‵ (flft κ q) ⊛ ‵ ftrue) ⊛ ‵ (f32 .own r (u ∷ []))) ⊛ raw (ensured 𝓤 H A at.ended (at.clauses 𝓤 H A mem run) (κ, tt) (s, (w, (h, (o, (x, (y, tt)))))) tt r)))) (id⊢ 𝓤 _) $ await ! tt $ pick ! (λ r.
       split ! $ move ! (1 ∷ []) $ use1 W (raw (fact 𝓤 (r ≡ found))) (said r) $ heard ! (r ≡ found) (λ eq. split ! $ move ! (1 ∷ []) $
       -- [the result; the token; what the parameters own; _7; …; _1; …; room for _0; …]

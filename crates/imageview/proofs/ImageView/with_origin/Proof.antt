@@ -94,7 +94,7 @@ module _ {M : Type 1} (𝓤 : URA M) (H : Heap 𝓤) (A : Atoms 𝓤) (W : Given
       pass1 ! (init ! 2 refl (shr-slice-lawful 𝓤 H A W (named 0) κ u8 .typed s (u ∷ []) p .0)) $
       pass1 ! (init ! 0 refl (array-typed i32 (sint-lawful 𝓤 H A W w32 .typed) 2 o (array-vals (sint-vals w32) o) is .0)) $ pass0 ! $
       assigns ! (agg ! (and-then ! (load ! (from ! (stop !)) (look ! 2 refl)) (and-then ! (load ! (from ! (stop !)) (look ! 6 refl)) (and-then ! (load ! (from ! (stop !)) (look ! 4 refl)) (and-then ! (load ! (from ! (stop !)) (look ! 0 refl)) (no-more !)))))) (from ! (stop !))
-        (init ! 8 refl (LL.lawful (T.the-type (namedLft 1 0 tt (κ, tt))) (T′.the-laws (namedLft 1 0 tt (κ, tt))) 𝓤 H A W .typed (view κ s w h a b) _ ((u ∷ [], (vint w64 w ∷ [], (vint w64 h ∷ [], (array-vals (sint-vals w32) o, tt)))), (refl, (p, ((refl, lw), ((refl, lh), (is, tt)))))) .0)) $
+      (init ! 8 refl (LL.lawful (T.the-type (namedLft 1 0 tt (κ, tt))) (T′.the-laws (namedLft 1 0 tt (κ, tt))) 𝓤 H A W .typed (view κ s w h a b) _ ((u ∷ [], (vint w64 w ∷ [], (vint w64 h ∷ [], (array-vals (sint-vals w32) o, tt)))), (refl, (p, ((refl, lw), ((refl, lh), (is, tt)))))) .0)) $
       returns ! (look ! 8 refl) $ forget ! 0 refl $ forget ! 2 refl $ forget ! 4 refl $ forget ! 6 refl $ forget ! 8 refl $
       move ! (8 ∷ 9 ∷ []) $ free1 ! $ move ! (6 ∷ 7 ∷ []) $ free1 ! $ move ! (4 ∷ 5 ∷ []) $ free1 ! $ move ! (2 ∷ 3 ∷ []) $ free1 ! $ free1 ! $ free0 ! $ by ! (exits lw lh is))))))
 

@@ -85,9 +85,9 @@ loop-again c =
     tab-put (d .before .loop .inv) (d .loop-test .taken)
     (c .sample-at .ensures
     ∙ ap (λ (z : ℤ). sample (now (s .args .pixels)) (s .args .width) (s .args .height) (s .args .origin) z (held (c .before .near2 .result)))
-      (moved (c .before .before .near .result) x (n % 17) (c .before .before .near .ensures) (subst (λ (z : ℤ). natAbs z ≤ 1000000) (sym (x-is (d .before))) (s .pre .1)) (omega arith))
+    (moved (c .before .before .near .result) x (n % 17) (c .before .before .near .ensures) (subst (λ (z : ℤ). natAbs z ≤ 1000000) (sym (x-is (d .before))) (s .pre .1)) (omega arith))
     ∙ ap (λ (z : ℤ). sample (now (s .args .pixels)) (s .args .width) (s .args .height) (s .args .origin) (x +ℤ (pos (n % 17) -ℤ pos 8)) z)
-      (moved (c .before .near2 .result) y (n / 17) (c .before .near2 .ensures) (subst (λ (z : ℤ). natAbs z ≤ 1000000) (sym (y-is (d .before))) (s .pre .2)) (omega arith)))
+    (moved (c .before .near2 .result) y (n / 17) (c .before .near2 .ensures) (subst (λ (z : ℤ). natAbs z ≤ 1000000) (sym (y-is (d .before))) (s .pre .2)) (omega arith)))
 
 returns : tie.Need-returns Inv-loop μ-loop
 returns c =
