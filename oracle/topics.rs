@@ -11,6 +11,7 @@ mod known;
 mod model;
 mod noise;
 mod patterns;
+mod rounds;
 mod sample;
 mod window;
 
@@ -20,6 +21,7 @@ pub const ALL: &[Topic] = &[
     window::TOPIC,
     grid::TOPIC,
     sample::TOPIC,
+    rounds::TOPIC,
     noise::TOPIC,
     gradients::TOPIC,
     model::TOPIC,

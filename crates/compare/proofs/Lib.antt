@@ -1,2 +1,3 @@
 -- What is lent, of equal answers.
 pub mod Answers
+pub mod Ordered

@@ -7,3 +7,4 @@ pub mod grids;
 pub mod pixel_gradients;
 pub mod samples;
 pub mod windows;
+pub mod bands;

@@ -1,0 +1,415 @@
+//! The quiet level, the start, the block sums, the rounds and the joining beside the original's, on slices of gates and squared
+//! outputs. Lengths lie around every multiple of 255 and 256 that a pass can have; gates and outputs stand on the thresholds.
+
+use super::{random::*, Run, Topic};
+use original::{counted, counts, noise};
+use std::{hint::black_box, time::Instant};
+
+pub const TOPIC: Topic = Topic { name: "rounds", gate: true, compare, store: None, speed: Some(speed) };
+
+type Part = *const f32;
+
+unsafe extern "C" {
+    fn vuzgari_compare_quantile(values: Part, len: usize) -> f32;
+    fn vuzgari_compare_mean_quiet(op: Part, ops: usize, gate: Part, gates: usize, quiet: f32) -> f64;
+    fn vuzgari_compare_admitted_count(gate: Part, gates: usize, op: Part, ops: usize, gate_var: f64, op_var: f64) -> usize;
+    fn vuzgari_compare_admitted_sum(gate: Part, gates: usize, op: Part, ops: usize, gate_var: f64, op_var: f64) -> f64;
+    fn vuzgari_compare_variance_count(gate: Part, gates: usize, op: Part, ops: usize, image_var: f64) -> usize;
+    fn vuzgari_compare_variance(gate: Part, gates: usize, op: Part, ops: usize, image_var: f64) -> f64;
+    fn vuzgari_compare_variance_rounds(gate: Part, gates: usize, op: Part, ops: usize, image_var: f64) -> usize;
+    fn vuzgari_compare_image_variance(gate: Part, gates: usize, op: Part, ops: usize, e1: usize, e2: usize, e3: usize) -> f64;
+    fn vuzgari_compare_image_rounds(gate: Part, gates: usize, op: Part, ops: usize, e1: usize, e2: usize, e3: usize) -> usize;
+    fn vuzgari_compare_noise_number(gate: Part, gates: usize, op: Part, ops: usize, e1: usize, e2: usize, e3: usize) -> u32;
+    fn vuzgari_compare_noise_sigma(gate: Part, gates: usize, op: Part, ops: usize, e1: usize, e2: usize, e3: usize) -> f32;
+    fn vuzgari_compare_noise_rounds(gate: Part, gates: usize, op: Part, ops: usize, e1: usize, e2: usize, e3: usize) -> usize;
+}
+
+/// A band's gates and squared outputs, as many of each.
+type Windows = (Vec<f32>, Vec<f32>);
+
+/// Most windows of a pass.
+const MOST: usize = 33_754;
+
+/// Inputs of each kind in the gate.
+const GATE: u64 = 3_000;
+
+fn compare(run: &mut Run) {
+    quantile(run);
+    mean_quiet(run);
+    admitted(run);
+    variance(run);
+    image_variance(run);
+    noise_sigma(run);
+}
+
+// ---- calls
+
+fn our_quantile(values: &[f32]) -> f32 {
+    unsafe { vuzgari_compare_quantile(values.as_ptr(), values.len()) }
+}
+
+fn our_mean_quiet((gate, op): &Windows, quiet: f32) -> f64 {
+    unsafe { vuzgari_compare_mean_quiet(op.as_ptr(), op.len(), gate.as_ptr(), gate.len(), quiet) }
+}
+
+fn our_admitted((gate, op): &Windows, gate_var: f64, op_var: f64) -> (usize, f64) {
+    let (g, o, n) = (gate.as_ptr(), op.as_ptr(), gate.len());
+    unsafe { (vuzgari_compare_admitted_count(g, n, o, n, gate_var, op_var), vuzgari_compare_admitted_sum(g, n, o, n, gate_var, op_var)) }
+}
+
+/// Count (0 for none), variance (NaN for none) and rounds.
+fn our_variance((gate, op): &Windows, image_var: f64) -> (usize, f64, usize) {
+    let (g, o, n) = (gate.as_ptr(), op.as_ptr(), gate.len());
+    unsafe {
+        (
+            vuzgari_compare_variance_count(g, n, o, n, image_var),
+            vuzgari_compare_variance(g, n, o, n, image_var),
+            vuzgari_compare_variance_rounds(g, n, o, n, image_var),
+        )
+    }
+}
+
+fn their_variance((gate, op): &Windows, image_var: f64) -> (usize, f64, usize) {
+    let band = counted::Band { gate, op };
+    let (found, counts) = counts::counted(|| band.variance(image_var));
+    let (n, var) = found.unwrap_or((0, f64::NAN));
+    (n, var, counts.rounds)
+}
+
+/// Four bands one after the other.
+#[derive(Clone)]
+struct Sample {
+    windows: Windows,
+    ends: [usize; 3],
+}
+
+impl Sample {
+    fn new(bands: &[Windows; 4]) -> Self {
+        let mut windows: Windows = (vec![], vec![]);
+        let mut ends = [0; 4];
+        for (end, (gate, op)) in ends.iter_mut().zip(bands) {
+            windows.0.extend(gate);
+            windows.1.extend(op);
+            *end = windows.0.len();
+        }
+        let [e1, e2, e3, _] = ends;
+        Sample { windows, ends: [e1, e2, e3] }
+    }
+
+    fn original(&self) -> counted::Sample {
+        let (gate, op) = &self.windows;
+        let buf = [&gate[..], &[0.0], op, &[0.0]].concat();
+        let [e1, e2, e3] = self.ends;
+        counted::Sample { buf, kept: gate.len(), start: [0, e1, e2, e3, gate.len()] }
+    }
+
+    fn ours<R>(&self, call: unsafe extern "C" fn(Part, usize, Part, usize, usize, usize, usize) -> R) -> R {
+        let ((gate, op), [e1, e2, e3]) = (&self.windows, self.ends);
+        unsafe { call(gate.as_ptr(), gate.len(), op.as_ptr(), op.len(), e1, e2, e3) }
+    }
+}
+
+impl super::Value for Sample {
+    fn same(&self, _: &Self) -> bool {
+        unreachable!("a sample is an input")
+    }
+    fn shown(&self) -> String {
+        (self.windows.0.clone(), self.windows.1.clone(), self.ends.to_vec()).shown()
+    }
+}
+
+// ---- inputs
+
+/// From 0 to the most of a pass: each multiple of 255 and of 256, and the two lengths on either side.
+fn lengths() -> impl Iterator<Item = usize> {
+    let around = |m: usize| (0..=MOST / m).flat_map(move |k| (0..5).map(move |d| (k * m + d).saturating_sub(2)));
+    around(255).chain(around(256)).filter(|&n| n <= MOST)
+}
+
+/// A length: mostly that of a small band.
+fn length(random: &mut Random) -> usize {
+    match random.below(8) {
+        0 => random.below(MOST as u64 + 1) as usize,
+        1 => 125 + random.below(8) as usize,
+        2..=4 => random.below(1_200) as usize,
+        _ => random.below(12) as usize * 256 + random.below(5) as usize,
+    }
+}
+
+/// The thresholds that a variance sets.
+fn thresholds(var: f64) -> (f32, f32) {
+    let var = var.max(noise::ROUNDING_OP_VAR);
+    ((noise::GATE * var) as f32, (noise::TRUNC * noise::TRUNC * var) as f32)
+}
+
+/// x, or a step or two from it.
+fn near(random: &mut Random, x: f32) -> f32 {
+    f32::from_bits(x.to_bits().wrapping_add(random.below(5) as u32).wrapping_sub(2))
+}
+
+fn variance_of(random: &mut Random) -> f64 {
+    match random.below(4) {
+        0 => random.below(100) as f64,
+        1 => random.below(1 << 26) as f64 / 3.0,
+        2 => (random.below(1 << 20) as f64).sqrt(),
+        _ => f64::from_bits(0x3ff0_0000_0000_0000 + (random.bits() >> 6 & 0x01ff_ffff_ffff_ffff)),
+    }
+}
+
+/// n windows of one kind: noise of a level, with structure among it; all alike; few different numbers; any finite numbers;
+/// numbers on the thresholds of `var`; levels that rise from round to round.
+fn windows(random: &mut Random, n: usize, var: f64) -> Windows {
+    let (threshold, cut) = thresholds(var);
+    let kind = random.below(8);
+    let (level, share, few) = (1 + random.below(2_000), random.below(40), 1 + random.below(30));
+    let (rise, more) = (1.0 + random.below(400) as f64 / 1000.0, 1.001 + random.below(300) as f64 / 1000.0);
+    let (height, ratio) = (1.0 + random.below(2_000) as f64, 1.0 + random.below(30) as f64);
+    (0..n)
+        .map(|_| match kind {
+            0..=2 => {
+                let out = normal(random) * (level as f64).sqrt() * 20.0;
+                let gate: f64 = (0..9).map(|_| normal(random).powi(2)).sum::<f64>() * level as f64 * 400.0;
+                let edge = if random.below(100) < share { (1 + random.below(1_000)) as f64 } else { 1.0 };
+                ((gate * edge).round() as f32, (out * edge).round().powi(2) as f32)
+            }
+            3 => (level as f32, few as f32),
+            4 => (random.below(few) as f32, random.below(few).pow(2) as f32),
+            5 => (finite(random), finite(random).abs()),
+            6 => (near(random, threshold), near(random, cut)),
+            _ => {
+                // the number at step k of a stair is `more` times as likely as the one before it
+                let k = ((random.below(1 << 20) as f64 / (1 << 20) as f64 * (more.powi(24) - 1.0) + 1.0).ln() / more.ln()).floor();
+                let at = height * rise.powf(k);
+                ((at * ratio).round() as f32, at.round() as f32)
+            }
+        })
+        .unzip()
+}
+
+/// Standard normal, near enough.
+fn normal(random: &mut Random) -> f64 {
+    (0..12).map(|_| random.below(1 << 32) as f64 / (1u64 << 32) as f64).sum::<f64>() - 6.0
+}
+
+fn finite(random: &mut Random) -> f32 {
+    loop {
+        let x = random.f32();
+        if x.is_finite() {
+            return x;
+        }
+    }
+}
+
+// ---- comparisons
+
+/// On lengths around each multiple, then on seeded ones; infinities, subnormals and zeros of both signs among them.
+fn quantile(run: &mut Run) {
+    let mut random = run.random("quantile");
+    let seeded: Vec<usize> = (0..run.size(GATE)).map(|_| 1 + length(&mut random)).collect();
+    let inputs = lengths().filter(|&n| n > 0).chain(seeded).map(|n| {
+        let any = random.below(4) == 0;
+        let (gates, _) = windows(&mut random, n, 100.0);
+        gates.into_iter().map(|g| if any { loop { let x = random.f32(); if !x.is_nan() { break x } } } else { g }).collect::<Vec<f32>>()
+    });
+    run.same("quantile", inputs, |v| our_quantile(v), |v| noise::quantile(v, 1.0 / 16.0));
+}
+
+fn mean_quiet(run: &mut Run) {
+    let mut random = run.random("mean_quiet");
+    let seeded: Vec<usize> = (0..run.size(GATE)).map(|_| length(&mut random)).collect();
+    let inputs = lengths().step_by(3).chain(seeded).map(|n| {
+        let windows = windows(&mut random, n, 100.0);
+        let quiet = if n == 0 || random.below(8) == 0 { random.below(1 << 20) as f32 } else { random.pick(&windows.0) };
+        (windows.0, windows.1, quiet)
+    });
+    run.same(
+        "mean_quiet",
+        inputs,
+        |(gate, op, quiet)| our_mean_quiet(&(gate.clone(), op.clone()), *quiet),
+        |(gate, op, quiet)| noise::mean_quiet(op, gate, *quiet),
+    );
+}
+
+fn admitted(run: &mut Run) {
+    let mut random = run.random("admitted");
+    let seeded: Vec<usize> = (0..run.size(GATE)).map(|_| length(&mut random)).collect();
+    let inputs = lengths().chain(seeded).map(|n| {
+        let (gate_var, op_var) = (variance_of(&mut random), variance_of(&mut random));
+        let (mut gate, mut op) = windows(&mut random, n, gate_var);
+        if random.below(4) == 0 {
+            // on both thresholds
+            (gate, op) = (windows(&mut random, n, gate_var).0, windows(&mut random, n, op_var).1);
+            for k in 0..n {
+                if random.below(2) == 0 {
+                    (gate[k], op[k]) = (near(&mut random, thresholds(gate_var).0), near(&mut random, thresholds(op_var).1));
+                }
+            }
+        }
+        (gate, op, gate_var, op_var)
+    });
+    let mut none = 0;
+    run.same(
+        "admitted",
+        inputs,
+        |(gate, op, gate_var, op_var)| our_admitted(&(gate.clone(), op.clone()), *gate_var, *op_var),
+        |(gate, op, gate_var, op_var)| {
+            let answer = noise::Band { gate, op }.admitted(*gate_var, *op_var);
+            none += u64::from(answer.0 == 0 && !gate.is_empty());
+            answer
+        },
+    );
+    run.count("admitted, none of some", none);
+}
+
+fn variance(run: &mut Run) {
+    let mut random = run.random("variance");
+    let seeded: Vec<usize> = (0..run.size(GATE)).map(|_| length(&mut random)).collect();
+    let inputs = lengths().step_by(2).chain(seeded).map(|n| {
+        let image_var = variance_of(&mut random);
+        let at = if random.below(2) == 0 { image_var } else { 100.0 };
+        let windows = windows(&mut random, n, at);
+        (windows.0, windows.1, image_var)
+    });
+    let mut kinds = [0; 4];
+    run.same(
+        "variance",
+        inputs,
+        |(gate, op, image_var)| our_variance(&(gate.clone(), op.clone()), *image_var),
+        |(gate, op, image_var)| {
+            let answer = their_variance(&(gate.clone(), op.clone()), *image_var);
+            kinds[0] += u64::from(answer.0 > 0);
+            kinds[1] += u64::from(answer.2 == 12);
+            kinds[2] += u64::from(answer.2 == 0);
+            kinds[3] += u64::from(answer.2 > 0 && answer.0 == 0);
+            answer
+        },
+    );
+    for (what, n) in ["found", "in twelve rounds", "without rounds", "none after rounds"].iter().zip(kinds) {
+        run.count(&format!("variance {what}"), n);
+    }
+}
+
+/// Bands of any lengths; of 127 to 129 windows; 510 to 514 windows in all; each level with windows of its own; bands that are
+/// level, one of them at three times the median or at eight times the image's, or a step or two from it.
+fn sample(random: &mut Random) -> Sample {
+    let mut bands: [Windows; 4] = Default::default();
+    match random.below(8) {
+        0..=2 => {
+            for band in &mut bands {
+                if random.below(4) > 0 {
+                    let n = length(random).min(6_000);
+                    *band = windows(random, n, 100.0);
+                }
+            }
+        }
+        3 => {
+            for band in &mut bands {
+                let n = 127 + random.below(3) as usize;
+                *band = windows(random, n, 100.0);
+            }
+        }
+        4 => {
+            let mut left = 510 + random.below(5) as usize;
+            for (k, band) in bands.iter_mut().enumerate() {
+                let n = if k == 3 { left } else { random.below(left as u64 + 1) as usize };
+                left -= n;
+                *band = windows(random, n, 100.0);
+            }
+        }
+        kind => {
+            let base = 34.0 + random.below(1 << 20) as f32 / 16.0;
+            let far = [3.0, 3.0, 1.5, 8.0][random.below(4) as usize];
+            let some = [0b0011, 0b1010, 0b0111, 0b1111, 0b1111, 0b1111][random.below(6) as usize];
+            let outlier = random.below(4);
+            for (k, band) in bands.iter_mut().enumerate() {
+                if some >> k & 1 == 1 {
+                    let level = if k as u64 == outlier { base * far } else { base };
+                    let n = if kind == 5 { 128 } else { 100 + random.below(500) as usize };
+                    *band = (vec![0.0; n], vec![near(random, level); n]);
+                }
+            }
+        }
+    }
+    Sample::new(&bands)
+}
+
+fn image_variance(run: &mut Run) {
+    let mut random = run.random("image_variance");
+    let samples: Vec<Sample> = (0..run.size(GATE)).map(|_| sample(&mut random)).filter(|s| !s.windows.0.is_empty()).collect();
+    let mut twelve = 0;
+    run.same(
+        "image_variance",
+        samples.into_iter(),
+        |s| (s.ours(vuzgari_compare_image_variance), s.ours(vuzgari_compare_image_rounds)),
+        |s| {
+            let original = s.original();
+            let (var, counts) = counts::counted(|| original.image_variance());
+            twelve += u64::from(counts.rounds == 12);
+            (var, counts.rounds)
+        },
+    );
+    run.count("image_variance in twelve rounds", twelve);
+}
+
+fn noise_sigma(run: &mut Run) {
+    let mut random = run.random("noise_sigma");
+    let samples: Vec<Sample> = (0..run.size(GATE)).map(|_| sample(&mut random)).collect();
+    let mut numbers = [0; 8];
+    run.same(
+        "noise_sigma",
+        samples.into_iter(),
+        |s| (s.ours(vuzgari_compare_noise_number), s.ours(vuzgari_compare_noise_sigma), s.ours(vuzgari_compare_noise_rounds)),
+        |s| {
+            let original = s.original();
+            let (sigma, counts) = counts::counted(|| counted::noise_sigma(&original));
+            numbers[counts.reason as usize] += 1;
+            (counts.reason, sigma.unwrap_or(0.0), counts.rounds)
+        },
+    );
+    for number in [0, 5, 6, 7] {
+        run.count(&format!("noise_sigma that answers {number}"), numbers[number]);
+    }
+}
+
+/// Microseconds a call on the windows of a pass, ours and the original's in turns; the medians.
+fn speed() {
+    let mut random = Random::new(1);
+    let bands: [Windows; 4] = std::array::from_fn(|_| loop {
+        let windows = windows(&mut random, 2_048, 100.0);
+        if windows.0.iter().any(|&g| g != windows.0[0]) {
+            break windows;
+        }
+    });
+    let sample = Sample::new(&bands);
+    let counted::Sample { buf, kept, start } = sample.original();
+    let original = noise::Sample { buf, kept, start };
+    let (gate, op) = &sample.windows;
+    beside("quantile", || our_quantile(gate) as f64, || noise::quantile(gate, 1.0 / 16.0) as f64);
+    beside("mean_quiet", || our_mean_quiet(&sample.windows, 1e5), || noise::mean_quiet(op, gate, 1e5));
+    beside(
+        "admitted",
+        || unsafe { vuzgari_compare_admitted_sum(gate.as_ptr(), gate.len(), op.as_ptr(), op.len(), 4e4, 4e4) },
+        || noise::Band { gate, op }.admitted(4e4, 4e4).1,
+    );
+    beside("noise_sigma", || sample.ours(vuzgari_compare_noise_sigma) as f64, || noise::noise_sigma(&original).unwrap_or(0.0) as f64);
+}
+
+fn beside(what: &str, ours: impl Fn() -> f64, theirs: impl Fn() -> f64) {
+    let time = |call: &dyn Fn() -> f64| {
+        let began = Instant::now();
+        for _ in 0..20 {
+            black_box(call());
+        }
+        began.elapsed().as_secs_f64() * 1e6 / 20.0
+    };
+    let mut times = [vec![], vec![]];
+    for _ in 0..101 {
+        times[0].push(time(&ours));
+        times[1].push(time(&theirs));
+    }
+    let [ours, theirs] = times.map(|mut turns| {
+        turns.sort_by(f64::total_cmp);
+        turns[turns.len() / 2]
+    });
+    println!("{what}: {ours:.1} µs a call, the original's {theirs:.1}");
+}
