@@ -110,7 +110,7 @@ fn coordinate(random: &mut Random) -> i32 {
     }
 }
 
-/// A finite number of any size up to 2 ^ 62, so that squares add up to a finite f32.
+/// A finite number of a size below 2 ^ 62: a few such squares add up to a finite f32, many may pass it and are 13.
 fn plain(random: &mut Random) -> f32 {
     f32::from_bits((random.bits() as u32 & 0x807f_ffff) | (random.below(189) as u32) << 23)
 }
