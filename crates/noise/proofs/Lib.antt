@@ -2,3 +2,4 @@ pub mod Causes
 pub mod Deciding
 pub mod Passing
 pub mod Leaving
+pub mod Totals
