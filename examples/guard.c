@@ -1,6 +1,6 @@
-/* guard after|before LIDS EDGES: makes the C calls on slices that each end at an unreadable page, or each begin right after one, and
-   holds what they answer to the lists and what they leave to document 01. Pixels are lent read-only, and to a call that is to be
-   refused everything is. An access outside ends the program with the call's name. */
+/* guard after|before LIDS EDGES: makes the C calls on slices that each end at an unreadable page, or each begin right
+   after one, and holds what they answer to the lists and what they leave to document 01. Pixels are lent read-only, and
+   to a call that is to be refused everything is. An access outside ends the program with the call's name. */
 #define _DEFAULT_SOURCE
 
 #include "lids/image.h"
@@ -156,7 +156,8 @@ static uint32_t call_noise(const struct image *image, const struct lent *lent, s
 {
     struct room pixels = open_pixels(image, lent->pixels);
     calls++;
-    uint32_t number = vuzgari_noise(pixels.at, lent->pixels, lent->w, lent->h, (int32_t *)(void *)work->ints.at, lent->ints,
+    uint32_t number = vuzgari_noise(pixels.at, lent->pixels, lent->w, lent->h,
+                                    (int32_t *)(void *)work->ints.at, lent->ints,
                                     (float *)(void *)work->floats.at, lent->floats, work->answer.at, lent->answer);
     close_room(&pixels);
     return number;
@@ -180,7 +181,8 @@ static uint32_t field(const uint8_t *bytes)
 }
 
 /* A call that ends in the fields and clears memory for m windows. */
-static void measured(const struct image *image, const char *what, struct lent lent, size_t m, const uint32_t fields[FIELDS])
+static void measured(const struct image *image, const char *what, struct lent lent, size_t m,
+                     const uint32_t fields[FIELDS])
 {
     begin(image->name, what);
     struct work work = open_work(&lent);
@@ -196,7 +198,7 @@ static void measured(const struct image *image, const char *what, struct lent le
     close_work(&work);
 }
 
-/* With just the memory that is needed, with more of it, and with whole pages, whose both ends meet an unreadable one. */
+/* With just the memory that is needed, with more of it, and with whole pages, both ends of which meet unreadable ones. */
 static void lengths(const struct image *image, struct lent lent, size_t m, const uint32_t fields[FIELDS])
 {
     measured(image, "just the lengths", lent, m, fields);
@@ -290,8 +292,8 @@ static void edge(const struct image *image)
     int32_t ox, oy, cx, cy;
     uint32_t number, bits;
     begin(image->name, "edge");
-    int read = sscanf(image->stored, "%" SCNd32 " %" SCNd32 " %" SCNd32 " %" SCNd32 " %" SCNu32 " %" SCNx32, &ox, &oy, &cx, &cy,
-                      &number, &bits);
+    int read = sscanf(image->stored, "%" SCNd32 " %" SCNd32 " %" SCNd32 " %" SCNd32 " %" SCNu32 " %" SCNx32,
+                      &ox, &oy, &cx, &cy, &number, &bits);
     hold(read == 6, "a stored line is not six fields");
     uint64_t answer = number == 0 ? bits : VUZGARI_REFUSED + number;
     size_t count = lid_bytes(image) - 4;

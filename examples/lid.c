@@ -1,11 +1,12 @@
 /* lid FILE: measures the noise of a lid through libvuzgari.a.
 
-   FILE has the format of the program lidnoise, with sides up to 16,384: width and height, two bytes each, low first, then the
-   pixels. It is mapped, so it must not become shorter meanwhile. Standard output has lidnoise's two lines; where there is no
-   figure, standard error has the reason. The number is the first that applies: 15 under 4 bytes, 15 not 4 + width * height bytes,
-   then the noise call's.
+   FILE has the format of the program lidnoise, with sides up to 16,384: width and height, two bytes each, low first,
+   then the pixels. It is mapped, so it must not become shorter meanwhile. Standard output has lidnoise's two lines;
+   where there is no figure, standard error has the reason. The number is the first that applies: 15 under 4 bytes, 15
+   not 4 + width * height bytes, then the noise call's.
 
-   Status: 0 there is a figure, 1 there is none, 2 the file cannot be mapped, memory ran out, or the lines cannot be written. */
+   Status: 0 there is a figure, 1 there is none, 2 the file cannot be mapped, memory ran out, or the lines cannot be
+   written. */
 #define _POSIX_C_SOURCE 200809L
 
 #include "vuzgari.h"
@@ -137,7 +138,7 @@ static const char *reason(uint32_t number)
     case 5:
         return "under 512 windows are kept: the lid is too small, or nearly all of it is black or white";
     case 6:
-        return "512 windows are kept, but no band has a variance: there is no quiet area at any brightness";
+        return "512 windows or more are kept, but no band has a variance: there is no quiet area at any brightness";
     case 7:
         return "the bands that join hold under 512 windows: there is too little quiet area";
     case NOT_A_LID:

@@ -2,9 +2,9 @@
 
    NAME W H PART LEVEL EVEN ODD NOISE MORE STORED..
 
-   The first PART columns are LEVEL, of the others the even ones EVEN and the odd ones ODD; to each pixel a drawn number from 0 to
-   NOISE is added, up to 255. MORE is how many bytes there are beyond W * H, below 0 how many are missing. STORED is the answer.
-   Lines that begin with # are remarks. */
+   The first PART columns are LEVEL, of the others the even ones EVEN and the odd ones ODD; to each pixel a drawn number
+   from 0 to NOISE is added, up to 255. MORE is how many bytes there are beyond W * H, below 0 how many are missing.
+   STORED is the answer. Lines that begin with # are remarks. */
 #ifndef IMAGE_H
 #define IMAGE_H
 

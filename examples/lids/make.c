@@ -1,5 +1,5 @@
-/* make LIST FOLDER: writes each image of the list as a lid, FOLDER/NAME.lid: width and height, two bytes each, low first, then the
-   pixels. */
+/* make LIST FOLDER: writes each image of the list as a lid, FOLDER/NAME.lid: width and height, two bytes each, low
+   first, then the pixels. */
 #include "image.h"
 
 #include <stdlib.h>

@@ -1,5 +1,5 @@
-//! The stored answers of examples/lids, to which the example and the guard test are held, beside the original's. The images are made
-//! here once more, as examples/lids/image.h says.
+//! The stored answers of examples/lids, to which the example and the guard test are held, beside the original's. The
+//! images are made here once more, as examples/lids/image.h says.
 
 use super::{edge, noise, Run, Topic};
 use std::{fs, rc::Rc};
