@@ -198,7 +198,7 @@ static void measured(const struct image *image, const char *what, struct lent le
     close_work(&work);
 }
 
-/* With just the memory that is needed, with more of it, and with whole pages, both ends of which meet unreadable ones. */
+/* With just the memory that is needed, with more of it, and with whole pages: both ends are next to unreadable ones. */
 static void lengths(const struct image *image, struct lent lent, size_t m, const uint32_t fields[FIELDS])
 {
     measured(image, "just the lengths", lent, m, fields);

@@ -1,6 +1,5 @@
-// The edge call: uncertainty.rs, `edge_width`, on a lent slice and numbers, also from C.
+// The edge call: uncertainty.rs, `edge_width`, on a lent slice and numbers.
 ghost use mathlib.Core.Path.{_≡_};
-ghost use mathlib.Core.List.{[], _∷_};
 ghost use Rattle.tile.specs.Width.{answer};
 ghost use Rattle.edge.specs.Edge.{edge};
 ghost use Rattle.edge.specs.Code as Code;
@@ -50,20 +49,4 @@ pub fn code(e: EdgeWidth) -> u64
         }
         EdgeWidth::Refused(n) => 4294967296 + wide(n),
     }
-}
-
-// The edge call for C, with origin (ox, oy) and centre (cx, cy): the width's bits, or 4,294,967,296 plus the number.
-#[no_mangle]
-pub extern "C" fn vuzgari_edge_width(
-    pixels: &[u8],
-    width: usize,
-    height: usize,
-    ox: i32,
-    oy: i32,
-    cx: i32,
-    cy: i32,
-) -> u64
-    ensures { λ r. ⌜ r ≡ Code.code (edge (now (pixels .entry)) width height (ox ∷ oy ∷ []) (cx ∷ cy ∷ [])) ⌝ }
-{
-    code(edge_width(pixels, width, height, [ox, oy], [cx, cy]))
 }

@@ -90,7 +90,7 @@ fn ending_in(p: Pass, rounds: u32, passes: u32) -> Answer
 }
 
 // A refused call's answer: zeros beside the number.
-fn refuse(number: u32) -> Answer
+pub fn refuse(number: u32) -> Answer
     ensures { λ r. ⌜ r ≡ refused number ⌝ }
 {
     Answer {

@@ -2,14 +2,15 @@
 use mathlib.Core.Path.{_≡_, refl, sym, ap, _∙_, subst}
 use mathlib.Core.Bool.{cond}
 use mathlib.Core.List.{List, [], _∷_, _++_}
-use Prim.Native.Nat.{ℕ, _+_, _*_, _-_, _%_, _≤_, _<_}
+use Prim.Native.Nat.{ℕ, zero, suc, _+_, _*_, _-_, _%_, _≤_, _<_}
 use native.Mathlib.Omega.{arith}
 use lib.Dec.{eqb}
-use lib.ListN.{length, length-append}
+use lib.ListN.{length, getD, length-append}
 use borrow.Author.Tests.{eq-eqb, ne-eqb}
+use Rattle.laws.specs.Lists.{joined}
 use Rattle.laws.proofs.Choice.{chosen, passed, cond-both}
 use Rattle.text.specs.Numerals.{laid, decimalOf, hex8Of}
-use Rattle.text.specs.Line.{fieldOf, endOf}
+use Rattle.text.specs.Line.{fieldOf, endOf, fieldAt, lineOf}
 use Rattle.text.proofs.Decimals.{decimal-short}
 
 pub field-hex : (kind x : ℕ) → kind ≡ 1 → hex8Of (x % 4294967296) ≡ fieldOf kind x
@@ -26,6 +27,20 @@ field-short kind x = cond-both (λ (l : List ℕ). length l ≤ 20) (eqb kind 1)
 
 pub field-end-short : (kind x end : ℕ) → length (fieldOf kind x ++ (end ∷ [])) ≤ 21
 field-end-short kind x end = omega (arith, length-append (fieldOf kind x) (end ∷ []), field-short kind x)
+
+pub line-short : (kinds values : List ℕ) → length (lineOf kinds values) ≤ 21 * length values
+unfolding lineOf
+line-short kinds values = rows 0 (length values)
+  where
+    rows : (k n : ℕ) → length (joined (fieldAt kinds values) k n) ≤ 21 * n
+    rows k zero = omega arith
+    rows k (suc n) =
+        omega (
+          arith,
+          length-append (fieldAt kinds values k) (joined (fieldAt kinds values) (suc k) n),
+          field-end-short (getD kinds k 0) (getD values k 0) (endOf (length values) k),
+          rows (suc k) n,
+        )
 
 -- the same text laid
 pub laid-same : {t u : List ℕ} (out out′ : List ℕ) (at r : ℕ) → t ≡ u → r ≡ at + length t → out′ ≡ laid out at t → (r ≡ at + length u) × (out′ ≡ laid out at u)

@@ -1,10 +1,10 @@
 -- Texts that are laid one after the other. Assumes nothing.
 use mathlib.Core.Path.{_≡_, refl, sym, ap, _∙_, subst}
 use mathlib.Core.List.{List, [], _∷_, _++_, append-nil, append-assoc}
-use Prim.Native.Nat.{ℕ, _+_, _-_, _≤_, _<_}
+use Prim.Native.Nat.{ℕ, zero, suc, _+_, _≤_}
 use native.Mathlib.Omega.{arith}
-use lib.ListN.{length, take, drop, length-append, length-take, length-drop}
-use lib.Seq.{take-at}
+use lib.ListN.{length, take, drop, length-append, length-take, length-drop, take-append-drop}
+use Rattle.laws.specs.Lists.{joined}
 use Rattle.laws.proofs.Fill.{Writing, start, put-many, end}
 use Rattle.text.specs.Numerals.{laid}
 
@@ -24,23 +24,36 @@ twice out l₁ l₂ at a b h e₁ e₂ = end done ∙ ap (λ (i : ℕ). (take at
     done : Writing (take at out ++ (a ++ b)) out (at + length a + length b) l₂ []
     done = put-many b refl (omega (arith, one .long)) e₂ (subst (λ (r : List ℕ). Writing (take at out ++ (a ++ b)) out (at + length a) l₁ r) (sym (append-nil b)) one)
 
--- four texts one after the other, from the front on
-pub four : (out l₁ l₂ l₃ l₄ a b c d : List ℕ) (r₁ r₂ r₃ r₄ : ℕ) → length a + length b + length c + length d ≤ length out
-    → r₁ ≡ 0 + length a → l₁ ≡ laid out 0 a → r₂ ≡ r₁ + length b → l₂ ≡ laid l₁ r₁ b → r₃ ≡ r₂ + length c → l₃ ≡ laid l₂ r₂ c → r₄ ≡ r₃ + length d → l₄ ≡ laid l₃ r₃ d
-    → (r₄ ≡ length (a ++ (b ++ (c ++ d)))) × (take r₄ l₄ ≡ a ++ (b ++ (c ++ d)))
-four out l₁ l₂ l₃ l₄ a b c d r₁ r₂ r₃ r₄ h p₁ e₁ p₂ e₂ p₃ e₃ p₄ e₄ = (whole, ap (λ (l : List ℕ). take r₄ l) all ∙ take-at (a ++ (b ++ (c ++ d))) (drop (0 + length (a ++ (b ++ (c ++ d)))) out) r₄ (sym whole))
+-- one row more
+pub joined-last : (rows : ℕ → List ℕ) (k n : ℕ) → joined rows k (suc n) ≡ joined rows k n ++ rows (k + n)
+joined-last rows k zero = append-nil (rows k) ∙ ap rows (plus-zero k)
   where
-    whole : r₄ ≡ length (a ++ (b ++ (c ++ d)))
-    whole = omega (arith, length-append a (b ++ (c ++ d)), length-append b (c ++ d), length-append c d)
+    plus-zero : (a : ℕ) → a ≡ a + 0
+    plus-zero a = omega arith
+joined-last rows k (suc n) =
+    ap (λ (l : List ℕ). rows k ++ l) (joined-last rows (suc k) n ∙ ap (λ (j : ℕ). joined rows (suc k) n ++ rows j) (over k n))
+    ∙ sym (append-assoc (rows k) (joined rows (suc k) n) (rows (k + suc n)))
+  where
+    over : (a b : ℕ) → suc a + b ≡ a + suc b
+    over a b = omega arith
 
-    two : l₂ ≡ laid out 0 (a ++ b)
-    two = twice out l₁ l₂ 0 a b (omega arith) e₁ (e₂ ∙ ap (λ (i : ℕ). laid l₁ i b) p₁)
+-- nothing laid
+pub none : (out : List ℕ) (at : ℕ) → at ≤ length out → out ≡ laid out at []
+none out at h = sym (ap (λ (i : ℕ). (take at out ++ []) ++ drop i out) (add-zero at) ∙ ap (λ (l : List ℕ). l ++ drop at out) (append-nil (take at out)) ∙ take-append-drop at out)
+  where
+    add-zero : (a : ℕ) → a + 0 ≡ a
+    add-zero a = omega arith
 
-    three : l₃ ≡ laid out 0 ((a ++ b) ++ c)
-    three = twice out l₂ l₃ 0 (a ++ b) c (omega (arith, length-append a b)) two (e₃ ∙ ap (λ (i : ℕ). laid l₂ i c) {x = r₂} {y = 0 + length (a ++ b)} (omega (arith, length-append a b)))
+-- two texts one after the other, from the front on
+pub two : (out l₁ l₂ a b : List ℕ) (r₁ r₂ : ℕ) → length a + length b ≤ length out → r₁ ≡ 0 + length a → l₁ ≡ laid out 0 a → r₂ ≡ r₁ + length b → l₂ ≡ laid l₁ r₁ b
+    → (r₂ ≡ length (a ++ b)) × (l₂ ≡ (a ++ b) ++ drop r₂ out)
+two out l₁ l₂ a b r₁ r₂ h p₁ e₁ p₂ e₂ = (whole, both ∙ ap (λ (i : ℕ). (a ++ b) ++ drop i out) (zero-plus (length (a ++ b)) ∙ sym whole))
+  where
+    zero-plus : (n : ℕ) → 0 + n ≡ n
+    zero-plus n = omega arith
 
-    last : l₄ ≡ laid out 0 (((a ++ b) ++ c) ++ d)
-    last = twice out l₃ l₄ 0 ((a ++ b) ++ c) d (omega (arith, length-append a b, length-append (a ++ b) c)) three (e₄ ∙ ap (λ (i : ℕ). laid l₃ i d) {x = r₃} {y = 0 + length ((a ++ b) ++ c)} (omega (arith, length-append a b, length-append (a ++ b) c)))
+    whole : r₂ ≡ length (a ++ b)
+    whole = omega (arith, length-append a b)
 
-    all : l₄ ≡ laid out 0 (a ++ (b ++ (c ++ d)))
-    all = last ∙ ap (λ (l : List ℕ). laid out 0 l) (append-assoc (a ++ b) c d ∙ append-assoc a b (c ++ d))
+    both : l₂ ≡ laid out 0 (a ++ b)
+    both = twice out l₁ l₂ 0 a b (omega arith) e₁ (e₂ ∙ ap (λ (i : ℕ). laid l₁ i b) p₁)

@@ -84,18 +84,28 @@ fn end_of(k: usize, n: usize) -> u8
     if k + 1 == n { 10 } else { 32 }
 }
 
-// The line of the fields with these kinds and values, from the front on: answers how long it is.
-pub fn put_line(out: &mut [u8], kinds: &[u8], values: &[u64]) -> usize
-    requires { ⌜ (length (now kinds) ≡ length (now values)) × (21 * length (now values) ≤ length (now out)) ⌝ }
-    ensures { λ r. ⌜ (r ≡ length (lineOf (now (kinds .entry)) (now (values .entry))))
-        × (now (out .exit) ≡ lineOf (now (kinds .entry)) (now (values .entry)) ++ drop r (now (out .entry))) ⌝ }
+// The line of the fields with these kinds and values.
+pub fn put_line(out: &mut [u8], at: usize, kinds: &[u8], values: &[u64]) -> usize
+    requires { ⌜ (length (now kinds) ≡ length (now values)) × (at + 21 * length (now values) ≤ length (now out)) ⌝ }
+    ensures { λ r. ⌜ (r ≡ at + length (lineOf (now (kinds .entry)) (now (values .entry))))
+        × (now (out .exit) ≡ laid (now (out .entry)) at (lineOf (now (kinds .entry)) (now (values .entry)))) ⌝ }
 {
     let n = values.len();
-    let mut at = 0;
+    let mut to = at;
     let mut k = 0;
     while k < n {
-        at = put_field(out, at, kinds[k], values[k], end_of(k, n));
+        to = put_field(out, to, kinds[k], values[k], end_of(k, n));
         k += 1;
     }
-    at
+    to
+}
+
+// A header and the line under it, from the front on: answers how long both are.
+pub fn put_report(out: &mut [u8], header: &[u8], kinds: &[u8], values: &[u64]) -> usize
+    requires { ⌜ (length (now kinds) ≡ length (now values)) × (length (now header) + 21 * length (now values) ≤ length (now out)) ⌝ }
+    ensures { λ r. ⌜ (r ≡ length (now (header .entry) ++ lineOf (now (kinds .entry)) (now (values .entry))))
+        × (now (out .exit) ≡ (now (header .entry) ++ lineOf (now (kinds .entry)) (now (values .entry))) ++ drop r (now (out .entry))) ⌝ }
+{
+    let to = put(out, 0, header);
+    put_line(out, to, kinds, values)
 }

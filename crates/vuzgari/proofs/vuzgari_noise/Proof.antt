@@ -1,10 +1,10 @@
 -- `vuzgari_noise` meets its contract: refused, too short an answer slice, or measured and written.
 use denote.Ref.{now}
 use Rattle.noise.proofs.Leaving.{ready}
-use Rattle.c_door.proofs.Calls.{refused, too-short, written}
+use Rattle.vuzgari.proofs.Calls.{refused, too-short, written}
 use borrow.Author.Needs.{needs}
-use Rattle.c_door.proofs.vuzgari_noise.Statement.{statement}
-use Rattle.c_door.proofs.vuzgari_noise.Tie as tie
+use Rattle.vuzgari.proofs.vuzgari_noise.Statement.{statement}
+use Rattle.vuzgari.proofs.vuzgari_noise.Tie as tie
 
 abbrev start : tie.After-judge → tie.Start
 start j = j .before .before .before .before

@@ -17,7 +17,7 @@ use Rattle.noise.specs.Refusals.{shortOf, refusalOf, judgedOf}
 use Rattle.noise.specs.Call.{measured, clearedInts, clearedFloats}
 use Rattle.noise.proofs.Causes.{same-cause, only-cause}
 use Rattle.noise.proofs.Leaving.{number-is, windows-is}
-use Rattle.c_door.specs.Noise.{Left, leftBy, noiseOf}
+use Rattle.vuzgari.specs.Noise.{Left, leftBy, noiseOf}
 
 module _ (img : List ℕ) (w h : ℕ) (ints : List ℤ) (floats : List Float) (out : List ℕ) (j : Judged) (is : j ≡ judgedOf (length img) w h (length ints) (length floats)) where
   abbrev short : Bool

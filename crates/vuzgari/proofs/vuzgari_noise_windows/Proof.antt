@@ -2,10 +2,10 @@
 use mathlib.Core.Path.{sym, ap, _∙_}
 use Rattle.grid.specs.Needed.{reading}
 use Rattle.grid.specs.declared.Size.{Size}
-use Rattle.c_door.specs.Codes.{codeOf}
+use Rattle.vuzgari.specs.Codes.{codeOf}
 use borrow.Author.Needs.{needs}
-use Rattle.c_door.proofs.vuzgari_noise_windows.Statement.{statement}
-use Rattle.c_door.proofs.vuzgari_noise_windows.Tie as tie
+use Rattle.vuzgari.proofs.vuzgari_noise_windows.Statement.{statement}
+use Rattle.vuzgari.proofs.vuzgari_noise_windows.Tie as tie
 
 sizing-requires : tie.Need-sizing-requires
 sizing-requires c κs = search needs

@@ -1,8 +1,11 @@
 // The calls that the capture program makes from C. A lent slice is two arguments there, a pointer and the number of elements.
 ghost use mathlib.Core.Path.{_≡_};
+ghost use mathlib.Core.List.{[], _∷_};
 ghost use Rattle.grid.specs.Needed.{sizingOf};
-ghost use Rattle.c_door.specs.Codes.{codeOf};
-ghost use Rattle.c_door.specs.Noise.{noiseOf};
+ghost use Rattle.edge.specs.Edge.{edge};
+ghost use Rattle.edge.specs.Code.{code};
+ghost use Rattle.vuzgari.specs.Codes.{codeOf};
+ghost use Rattle.vuzgari.specs.Noise.{noiseOf};
 
 // M for an image of w by h, or 4,294,967,296 plus the number of a refusal. The noise call needs 3M i32 and 2M + 2 f32.
 #[no_mangle]
@@ -45,4 +48,20 @@ pub extern "C" fn vuzgari_noise(
     let number = a.number;
     answer::put(out, a);
     number
+}
+
+// The edge call for C, with origin (ox, oy) and centre (cx, cy): the width's bits, or 4,294,967,296 plus the number.
+#[no_mangle]
+pub extern "C" fn vuzgari_edge_width(
+    pixels: &[u8],
+    width: usize,
+    height: usize,
+    ox: i32,
+    oy: i32,
+    cx: i32,
+    cy: i32,
+) -> u64
+    ensures { λ r. ⌜ r ≡ code (edge (now (pixels .entry)) width height (ox ∷ oy ∷ []) (cx ∷ cy ∷ [])) ⌝ }
+{
+    edge::code(edge::edge_width(pixels, width, height, [ox, oy], [cx, cy]))
 }

@@ -7,10 +7,10 @@ use lib.IntN.{ℤ}
 use mir.Facts.{toZ-ofZ}
 use denote.Ref.{now}
 use Rattle.tile.specs.Width.{Answer}
 use Rattle.edge.specs.Edge.{edge}
 use Rattle.edge.specs.Code as Code
-use Rattle.edge.proofs.vuzgari_edge_width.Statement.{statement}
-use Rattle.edge.proofs.vuzgari_edge_width.Tie as tie
+use Rattle.vuzgari.proofs.vuzgari_edge_width.Statement.{statement}
+use Rattle.vuzgari.proofs.vuzgari_edge_width.Tie as tie
 
 same : (l : List ℕ) (w h : ℕ) {a b c d a′ b′ c′ d′ : ℤ} → a ≡ a′ → b ≡ b′ → c ≡ c′ → d ≡ d′ → edge l w h (a ∷ b ∷ []) (c ∷ d ∷ []) ≡ edge l w h (a′ ∷ b′ ∷ []) (c′ ∷ d′ ∷ [])
 same l w h p q r s = λ i. edge l w h (p i ∷ q i ∷ []) (r i ∷ s i ∷ [])
