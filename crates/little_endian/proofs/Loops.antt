@@ -122,3 +122,9 @@ module _ {bytes : List ℕ} {at count : ℕ} where
     where
       none : (a k : ℕ) → k ≤ 0 → a + k ≡ a
       none a k h = omega arith
+
+  pub get-small : {x k : ℕ} → k ≤ 0 → Getting bytes at count x k → x < 256 ^ count
+  get-small {x} {k} h g = subst (λ (n : ℕ). x < 256 ^ n) (all count k h) (g .small)
+    where
+      all : (n k : ℕ) → k ≤ 0 → n - k ≡ n
+      all n k h = omega arith

@@ -1,6 +1,6 @@
 // Whole numbers as little-endian bytes in lent slices.
 ghost use mathlib.Core.Path.{_≡_};
-ghost use Prim.Native.Nat.{_+_, _≤_, _<_};
+ghost use Prim.Native.Nat.{_+_, _^_, _≤_, _<_};
 ghost use lib.ListN.{length};
 ghost use lib.Seq.{slice};
 ghost use Rattle.little_endian.specs.Bytes.{bytesOf, valueOf, laid};
@@ -28,7 +28,7 @@ pub fn put(out: &mut [u8], at: usize, count: usize, x: u64)
 // The number that the count bytes from place `at` on stand for.
 pub fn get(bytes: &[u8], at: usize, count: usize) -> u64
     requires { ⌜ (count ≤ 8) × (at + count ≤ length (now bytes)) ⌝ }
-    ensures { λ r. ⌜ r ≡ valueOf (slice at (at + count) (now (bytes .entry))) ⌝ }
+    ensures { λ r. ⌜ (r ≡ valueOf (slice at (at + count) (now (bytes .entry)))) × (r < 256 ^ count) ⌝ }
 {
     let mut x: u64 = 0;
     let mut k = count;

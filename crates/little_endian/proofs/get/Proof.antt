@@ -1,6 +1,6 @@
 -- `get` reads down from the highest byte: the number so far is that of the bytes passed.
 use native.Mathlib.Omega.{arith}
-use Rattle.little_endian.proofs.Loops.{Getting, get-start, get-turn, get-fits, get-end}
+use Rattle.little_endian.proofs.Loops.{Getting, get-start, get-turn, get-fits, get-end, get-small}
 use Rattle.little_endian.proofs.get.Statement.{statement}
 use Rattle.little_endian.proofs.get.Tie as tie
 
@@ -38,7 +38,7 @@ loop-again : tie.Need-loop-again Inv-loop μ-loop
 loop-again c = get-turn (c .before .before .before .before .before .pre .1) (c .before .before .loop-test .taken) (c .wide .ensures .1) (c .wide .ensures .0) (c .before .before .before .loop .inv)
 
 returns : tie.Need-returns Inv-loop μ-loop
-returns c = get-end (c .loop-test .left) (c .before .loop .inv)
+returns c = (get-end (c .loop-test .left) (c .before .loop .inv), get-small (c .loop-test .left) (c .before .loop .inv))
 
 pub get-spec : {M : Type 1} → statement M
 get-spec =

@@ -1,0 +1,39 @@
+-- The pixels are all that stands from the place on.
+use mathlib.Core.Path.{_≡_, ap, _∙_}
+use mathlib.Core.List.{List}
+use Prim.Native.Nat.{ℕ, _-_}
+use native.Mathlib.Omega.{arith}
+use lib.ListN.{length, take, drop, length-drop}
+use lib.Seq.{take-all}
+use denote.Ref.{now}
+use Rattle.lid.specs.Answer.{noiseAnswer}
+use borrow.Author.Needs.{needs}
+use Rattle.lid.proofs.measure_from.Statement.{statement}
+use Rattle.lid.proofs.measure_from.Tie as tie
+use Rattle.lid.proofs.measure_from.Reads as reads
+use Rattle.lid.proofs.measure_from.Lts as lts
+use Rattle.lid.proofs.measure.Reads as measure-reads
+
+rest : (l : List ℕ) (at : ℕ) → take (length l - at) (drop at l) ≡ drop at l
+rest l at = take-all (length l - at) (drop at l) (omega (arith, length-drop at l))
+
+sub-measure : tie.Need-sub-measure
+sub-measure c = search needs
+
+part-measure-start : tie.Need-part-measure-start
+part-measure-start c = search needs
+
+part-measure-end : tie.Need-part-measure-end
+part-measure-end c = search needs
+
+measure-requires : tie.Need-measure-requires
+measure-requires c κs = search needs
+
+returns : tie.Need-returns
+returns c =
+    let s = c .before .before .before in
+    c .measure .ensures ∙ ap (λ (l : List ℕ). noiseAnswer l (s .args .w) (s .args .h)) (rest (now (s .args .input)) (s .args .at))
+
+pub measure-from-spec : {M : Type 1} → statement M
+measure-from-spec =
+    tie.close (tie.spec sub-measure part-measure-start part-measure-end measure-requires returns)
