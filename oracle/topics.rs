@@ -8,6 +8,7 @@ mod floats;
 mod grid;
 mod gradients;
 mod known;
+mod lids;
 mod model;
 mod noise;
 mod patterns;
@@ -26,6 +27,8 @@ pub const ALL: &[Topic] = &[
     gradients::TOPIC,
     model::TOPIC,
     edge::TOPIC,
+    lids::TOPIC,
     noise::LARGE,
+    lids::LARGE,
     patterns::TOPIC,
 ];

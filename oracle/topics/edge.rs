@@ -26,11 +26,11 @@ const GATE: u64 = 60_000;
 const CENTRES: u64 = 64;
 
 #[derive(Clone)]
-struct Call {
-    pixels: Rc<Vec<u8>>,
-    sides: [usize; 2],
-    origin: [i32; 2],
-    centre: [i32; 2],
+pub struct Call {
+    pub pixels: Rc<Vec<u8>>,
+    pub sides: [usize; 2],
+    pub origin: [i32; 2],
+    pub centre: [i32; 2],
 }
 
 impl Value for Call {
@@ -51,7 +51,7 @@ impl Call {
     }
 
     /// The answer by document 01's order, and whether the original as it stands has another width.
-    fn theirs(&self) -> (u64, bool) {
+    pub fn theirs(&self) -> (u64, bool) {
         const NUMBER: u64 = 1 << 32;
         let [w, h] = self.sides;
         if w > 16_384 || h > 16_384 {

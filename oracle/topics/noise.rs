@@ -144,8 +144,13 @@ fn stripes(x: usize) -> u8 {
 fn line((w, h): (usize, usize), column: fn(usize) -> u8) -> String {
     let pixels: Vec<u8> = (0..w * h).map(|k| column(k % w)).collect();
     let (_, words, wrong) = ours(&pixels, w, h, Lent::needed(w, h));
+    shown(&words) + &wrong
+}
+
+/// Ten fields as `lidnoise` prints them.
+pub fn shown(words: &[u32]) -> String {
     let fields: Vec<String> = words.iter().enumerate().map(|(k, x)| if k == 1 { format!("{x:08X}") } else { x.to_string() }).collect();
-    fields.join(" ") + &wrong
+    fields.join(" ")
 }
 
 /// Sides of which many are out of range.

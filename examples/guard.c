@@ -1,0 +1,342 @@
+/* guard after|before LIDS EDGES: makes the C calls on slices that each end at an unreadable page, or each begin right
+   after one, and holds what they answer to the lists and what they leave to document 01. Pixels are lent read-only, and
+   to a call that is to be refused everything is. An access outside ends the program with the call's name. */
+#define _DEFAULT_SOURCE
+
+#include "lids/image.h"
+#include "vuzgari.h"
+
+#include <inttypes.h>
+#include <signal.h>
+#include <stdlib.h>
+#include <string.h>
+#include <sys/mman.h>
+#include <unistd.h>
+
+enum { FIELDS = VUZGARI_ANSWER_BYTES / 4 };
+
+static enum { AFTER, BEFORE } guarded; /* where the unreadable page is */
+static char doing[128];                /* the call under way */
+static unsigned long calls;
+
+static _Noreturn void fail(const char *why)
+{
+    printf("guard: %s: %s\n", doing, why);
+    exit(1);
+}
+
+static void hold(bool held, const char *why)
+{
+    if (!held) {
+        fail(why);
+    }
+}
+
+static void on_fault(int number)
+{
+    (void)number;
+    static const char why[] = ": memory outside the lent slices, or lent read-only\n";
+    bool told = write(STDERR_FILENO, doing, strlen(doing)) > 0 && write(STDERR_FILENO, why, sizeof why - 1) > 0;
+    _exit(told ? 3 : 4);
+}
+
+static void begin(const char *name, const char *what)
+{
+    snprintf(doing, sizeof doing, "%s, %s", name, what);
+}
+
+/* Memory of some bytes, with an unreadable page on both sides; one of them is next to it. */
+struct room {
+    uint8_t *map, *at;
+    size_t map_bytes, bytes;
+};
+
+static size_t page_bytes(void)
+{
+    return (size_t)sysconf(_SC_PAGESIZE);
+}
+
+static size_t whole_pages(size_t bytes)
+{
+    return (bytes + page_bytes() - 1) / page_bytes() * page_bytes();
+}
+
+static struct room open_room(size_t bytes)
+{
+    size_t inner = whole_pages(bytes);
+    struct room room = {.map_bytes = inner + 2 * page_bytes(), .bytes = bytes};
+    void *map = mmap(NULL, room.map_bytes, PROT_NONE, MAP_PRIVATE | MAP_ANONYMOUS, -1, 0);
+    hold(map != MAP_FAILED, "no memory");
+    room.map = map;
+    room.at = room.map + page_bytes() + (guarded == AFTER ? inner - bytes : 0);
+    hold(inner == 0 || mprotect(room.map + page_bytes(), inner, PROT_READ | PROT_WRITE) == 0, "mprotect");
+    return room;
+}
+
+static void make_read_only(const struct room *room)
+{
+    size_t inner = room->map_bytes - 2 * page_bytes();
+    hold(inner == 0 || mprotect(room->map + page_bytes(), inner, PROT_READ) == 0, "mprotect");
+}
+
+static void close_room(struct room *room)
+{
+    munmap(room->map, room->map_bytes);
+}
+
+/* What stands at place k before a call: never 0. */
+static uint8_t mark(size_t k)
+{
+    return (uint8_t)(1 + k % 255);
+}
+
+static struct room open_marked(size_t bytes)
+{
+    struct room room = open_room(bytes);
+    for (size_t k = 0; k < bytes; k++) {
+        room.at[k] = mark(k);
+    }
+    return room;
+}
+
+static bool marked_from(const struct room *room, size_t first)
+{
+    for (size_t k = first; k < room->bytes; k++) {
+        if (room->at[k] != mark(k)) {
+            return false;
+        }
+    }
+    return true;
+}
+
+static bool zero_up_to(const struct room *room, size_t end)
+{
+    for (size_t k = 0; k < end; k++) {
+        if (room->at[k] != 0) {
+            return false;
+        }
+    }
+    return true;
+}
+
+static struct room open_pixels(const struct image *image, size_t count)
+{
+    struct room pixels = open_room(count);
+    paint(image, pixels.at, count);
+    make_read_only(&pixels);
+    return pixels;
+}
+
+/* The numbers of elements that a noise call is lent, and its sides. */
+struct lent {
+    size_t w, h, pixels, ints, floats, answer;
+};
+
+struct work {
+    struct room ints, floats, answer;
+};
+
+static struct work open_work(const struct lent *lent)
+{
+    return (struct work){
+        .ints = open_marked(lent->ints * sizeof(int32_t)),
+        .floats = open_marked(lent->floats * sizeof(float)),
+        .answer = open_marked(lent->answer),
+    };
+}
+
+static void close_work(struct work *work)
+{
+    close_room(&work->ints);
+    close_room(&work->floats);
+    close_room(&work->answer);
+}
+
+static uint32_t call_noise(const struct image *image, const struct lent *lent, struct work *work)
+{
+    struct room pixels = open_pixels(image, lent->pixels);
+    calls++;
+    uint32_t number = vuzgari_noise(pixels.at, lent->pixels, lent->w, lent->h,
+                                    (int32_t *)(void *)work->ints.at, lent->ints,
+                                    (float *)(void *)work->floats.at, lent->floats, work->answer.at, lent->answer);
+    close_room(&pixels);
+    return number;
+}
+
+/* A call that is refused with a number and writes nowhere. */
+static void refused(const struct image *image, const char *what, struct lent lent, uint32_t number)
+{
+    begin(image->name, what);
+    struct work work = open_work(&lent);
+    make_read_only(&work.ints);
+    make_read_only(&work.floats);
+    make_read_only(&work.answer);
+    hold(call_noise(image, &lent, &work) == number, "another number");
+    close_work(&work);
+}
+
+static uint32_t field(const uint8_t *bytes)
+{
+    return bytes[0] | (uint32_t)bytes[1] << 8 | (uint32_t)bytes[2] << 16 | (uint32_t)bytes[3] << 24;
+}
+
+/* A call that ends in the fields and clears memory for m windows. */
+static void measured(const struct image *image, const char *what, struct lent lent, size_t m,
+                     const uint32_t fields[FIELDS])
+{
+    begin(image->name, what);
+    struct work work = open_work(&lent);
+    hold(call_noise(image, &lent, &work) == fields[0], "another number");
+    for (size_t k = 0; k < FIELDS; k++) {
+        hold(field(work.answer.at + 4 * k) == fields[k], "another field");
+    }
+    size_t ints = 3 * m * sizeof(int32_t);
+    size_t floats = (2 * m + 2) * sizeof(float);
+    hold(marked_from(&work.answer, VUZGARI_ANSWER_BYTES), "answer bytes beyond changed");
+    hold(zero_up_to(&work.ints, ints) && zero_up_to(&work.floats, floats), "work memory not cleared");
+    hold(marked_from(&work.ints, ints) && marked_from(&work.floats, floats), "work memory beyond changed");
+    close_work(&work);
+}
+
+/* With just the memory that is needed, with more of it, and with whole pages: both ends are next to unreadable ones. */
+static void lengths(const struct image *image, struct lent lent, size_t m, const uint32_t fields[FIELDS])
+{
+    measured(image, "just the lengths", lent, m, fields);
+    struct lent longer = lent;
+    longer.ints += 1;
+    longer.floats += 7;
+    longer.answer += 5;
+    measured(image, "longer slices", longer, m, fields);
+    struct lent pages = lent;
+    pages.ints = whole_pages(lent.ints * sizeof(int32_t)) / sizeof(int32_t);
+    pages.floats = whole_pages(lent.floats * sizeof(float)) / sizeof(float);
+    pages.answer = whole_pages(lent.answer);
+    measured(image, "whole pages", pages, m, fields);
+}
+
+/* One thing wrong at a time; and each number before those that come later in the order. */
+static void refusals(const struct image *image, struct lent good)
+{
+    struct lent bad = good;
+    bad.ints -= 1;
+    refused(image, "an i32 short", bad, 4);
+    bad = good;
+    bad.floats -= 1;
+    refused(image, "an f32 short", bad, 4);
+    bad = good;
+    bad.answer -= 1;
+    refused(image, "an answer byte short", bad, 4);
+    bad = (struct lent){.w = good.w, .h = good.h, .pixels = good.pixels};
+    refused(image, "no work memory", bad, 4);
+    bad.w = 3;
+    bad.pixels = 3 * good.h;
+    refused(image, "3 columns, no work memory", bad, 3);
+    bad.pixels += 1;
+    refused(image, "3 columns, a pixel too many, no work memory", bad, 2);
+    bad = good;
+    bad.pixels -= 1;
+    refused(image, "a pixel short", bad, 2);
+    bad.pixels += 2;
+    refused(image, "a pixel too many", bad, 2);
+    bad.w = 16385;
+    refused(image, "16,385 columns", bad, 1);
+    bad = (struct lent){.w = good.w, .h = SIZE_MAX};
+    refused(image, "2^64 - 1 rows, nothing lent", bad, 1);
+}
+
+/* The ten fields of a stored line. */
+static void stored_fields(const struct image *image, uint32_t fields[FIELDS])
+{
+    const char *text = image->stored;
+    for (size_t k = 0; k < FIELDS; k++) {
+        char *end;
+        fields[k] = (uint32_t)strtoul(text, &end, k == 1 ? 16 : 10);
+        hold(end != text, "a stored line is not ten fields");
+        text = end;
+    }
+}
+
+static uint64_t call_sizing(const struct image *image)
+{
+    calls++;
+    return vuzgari_noise_windows(image->w, image->h);
+}
+
+/* The sizing and the noise call on one lid of the list; a line of number 15 has no such call. */
+static void lid(const struct image *image)
+{
+    if (image->more != 0) {
+        return;
+    }
+    uint32_t fields[FIELDS];
+    begin(image->name, "sizing");
+    stored_fields(image, fields);
+    struct lent lent = {.w = image->w, .h = image->h, .pixels = image->w * image->h, .answer = VUZGARI_ANSWER_BYTES};
+    uint64_t size = call_sizing(image);
+    if (fields[0] == 1 || fields[0] == 3) {
+        hold(size == VUZGARI_REFUSED + fields[0], "another number");
+        refused(image, "sides", lent, fields[0]);
+        return;
+    }
+    hold(size < VUZGARI_REFUSED, "refused");
+    size_t m = (size_t)size;
+    lent.ints = 3 * m;
+    lent.floats = 2 * m + 2;
+    lengths(image, lent, m, fields);
+    refusals(image, lent);
+}
+
+/* One call of the edges' list. */
+static void edge(const struct image *image)
+{
+    int32_t ox, oy, cx, cy;
+    uint32_t number, bits;
+    begin(image->name, "edge");
+    int read = sscanf(image->stored, "%" SCNd32 " %" SCNd32 " %" SCNd32 " %" SCNd32 " %" SCNu32 " %" SCNx32,
+                      &ox, &oy, &cx, &cy, &number, &bits);
+    hold(read == 6, "a stored line is not six fields");
+    uint64_t answer = number == 0 ? bits : VUZGARI_REFUSED + number;
+    size_t count = lid_bytes(image) - 4;
+    struct room pixels = open_pixels(image, count);
+    calls++;
+    hold(vuzgari_edge_width(pixels.at, count, image->w, image->h, ox, oy, cx, cy) == answer, "another answer");
+    close_room(&pixels);
+}
+
+/* Null pointers, with lengths of 0. */
+static void nulls(void)
+{
+    calls += 3;
+    begin("null pointers", "noise, no sides");
+    hold(vuzgari_noise(NULL, 0, 0, 0, NULL, 0, NULL, 0, NULL, 0) == 3, "another number");
+    begin("null pointers", "noise, 4 by 4");
+    hold(vuzgari_noise(NULL, 0, 4, 4, NULL, 0, NULL, 0, NULL, 0) == 2, "another number");
+    begin("null pointers", "edge");
+    hold(vuzgari_edge_width(NULL, 0, 0, 0, 0, 0, 0, 0) == VUZGARI_REFUSED + 9, "another answer");
+}
+
+static void each(const char *path, void (*try)(const struct image *))
+{
+    FILE *list = open_list(path);
+    struct image image;
+    while (next_image(list, &image)) {
+        try(&image);
+    }
+    fclose(list);
+}
+
+int main(int argc, char **argv)
+{
+    if (argc != 4 || (strcmp(argv[1], "after") != 0 && strcmp(argv[1], "before") != 0)) {
+        fprintf(stderr, "usage: guard after|before LIDS EDGES\n");
+        return 2;
+    }
+    guarded = strcmp(argv[1], "after") == 0 ? AFTER : BEFORE;
+    signal(SIGSEGV, on_fault);
+    signal(SIGBUS, on_fault);
+    nulls();
+    each(argv[2], lid);
+    each(argv[3], edge);
+    printf("guard: %lu calls, unreadable pages %s the slices\n", calls, argv[1]);
+    return 0;
+}
