@@ -1,7 +1,7 @@
 //! The topics: a file each, named here. What a topic calls that is not among the library's C calls, a module of crates/compare
 //! exports for it.
 
-use crate::{images, images::Image, random, speed::beside, value::Value, Run, Stored, Topic};
+use crate::{images, images::Image, random, speed::beside, value::{Count, Value}, Run, Stored, Topic};
 
 mod edge;
 mod floats;

@@ -3,7 +3,7 @@
 
 use super::{random::*, Run, Topic, Value};
 use original::{imageview::ImageView, sorted, uncertainty};
-use std::{hint::black_box, iter::repeat_with, rc::Rc, time::Instant};
+use std::{hint::black_box, iter::repeat_with, ops::Range, rc::Rc, time::Instant};
 
 pub const TOPIC: Topic = Topic { name: "edge", gate: true, compare, store: None, speed: Some(speed) };
 
@@ -41,9 +41,29 @@ impl Value for Call {
         let Call { pixels, sides: [w, h], origin, centre } = self;
         format!("{pixels:?}, {w}, {h}, {origin:?}, {centre:?}")
     }
+    /// A half of the image with its pixels; where there are none, or not as many, half of a side or of the pixels.
+    fn smaller(&self) -> Vec<Self> {
+        let [w, h] = self.sides;
+        if self.pixels.is_empty() || w.checked_mul(h) != Some(self.pixels.len()) {
+            let halves = [(w / 2, h, self.pixels.len()), (w, h / 2, self.pixels.len()), (w, h, self.pixels.len() / 2)];
+            let calls = halves.map(|(w, h, n)| Call { sides: [w, h], pixels: Rc::new(self.pixels[..n].to_vec()), ..self.clone() });
+            return calls.into_iter().filter(|call| call.sides != self.sides || call.pixels.len() < self.pixels.len()).collect();
+        }
+        let halves = [(0..w / 2, 0..h), (w - w / 2..w, 0..h), (0..w, 0..h / 2), (0..w, h - h / 2..h)];
+        let calls = halves.map(|(columns, rows)| self.cut(columns, rows));
+        calls.into_iter().filter(|call| call.sides != self.sides).collect()
+    }
 }
 
 impl Call {
+    /// The columns and rows given, and the centre where it was in them.
+    fn cut(&self, columns: Range<usize>, rows: Range<usize>) -> Self {
+        let pixels = rows.clone().flat_map(|y| &self.pixels[y * self.sides[0]..][columns.clone()]).copied().collect();
+        let ([cx, cy], moved) = (self.centre, [columns.start, rows.start].map(|n| n as i32));
+        let centre = [cx.saturating_sub(moved[0]), cy.saturating_sub(moved[1])];
+        Call { pixels: Rc::new(pixels), sides: [columns.len(), rows.len()], centre, ..self.clone() }
+    }
+
     fn ours(&self) -> u64 {
         let ([w, h], [ox, oy], [cx, cy]) = (self.sides, self.origin, self.centre);
         // SAFETY: the pixels live through the call, which reads no others.

@@ -47,7 +47,7 @@ fn one<A: Value + Copy, R: Value>(
 ) {
     let mut random = run.random(what);
     let seeded = repeat_with(|| input(&mut random)).take(run.size(GATE) as usize);
-    run.same(what, specials.iter().copied().chain(seeded), |&x| ours(x), |&x| theirs(x));
+    run.same(what, run.once(specials.iter().copied()).chain(seeded), |&x| ours(x), |&x| theirs(x));
 }
 
 /// A helper of two arguments.
@@ -62,7 +62,7 @@ fn two<A: Value + Copy, R: Value>(
     let mut random = run.random(what);
     let pairs = specials.iter().flat_map(|&a| specials.iter().map(move |&b| (a, b)));
     let seeded = repeat_with(|| (input(&mut random), input(&mut random))).take(run.size(GATE) as usize);
-    run.same(what, pairs.chain(seeded), ours, theirs);
+    run.same(what, run.once(pairs).chain(seeded), ours, theirs);
 }
 
 /// A maximum or minimum. Rust leaves open which of two zeros it answers: any zero is right there, and those of the other sign

@@ -142,10 +142,10 @@ impl Value for Knots {
         let knots: Vec<String> = (0..16).map(|k| [self.widths[k], self.gains[k], self.residuals[k]].shown()).collect();
         format!("count {}, floor {}, knots {}", self.count, self.floor.shown(), knots.join(" "))
     }
-    /// With a knot less.
+    /// With half of the knots, or one less.
     fn smaller(&self) -> Vec<Self> {
-        let one_less = |count| Knots { count, ..self.clone() };
-        (1..self.count.min(18)).rev().take(1).map(one_less).collect()
+        let less = [self.count / 2, self.count.saturating_sub(1)].into_iter().filter(|&count| count > 0);
+        less.map(|count| Knots { count, ..self.clone() }).collect()
     }
 }
 
@@ -249,7 +249,7 @@ fn compare(run: &mut Run) {
         None,
         1.0,
     )];
-    run.same("model", known.into_iter().chain(estimates.take(run.size(500_000) as usize)), ours_model, |estimate| {
+    run.same("model", run.once(known.into_iter()).chain(estimates.take(run.size(500_000) as usize)), ours_model, |estimate| {
         let answer = their_model(estimate);
         met("model", answer.0);
         answer
