@@ -115,12 +115,14 @@ impl Run {
         let mut n = 0;
         for mut input in inputs {
             if !ours(&input).same(&theirs(&input)) {
+                let mut times = 0;
                 while let Some(smaller) = input.smaller().into_iter().find(|input| !ours(input).same(&theirs(input))) {
                     input = smaller;
+                    times += 1;
                 }
                 let (got, want) = (ours(&input), theirs(&input));
                 println!("compare: {} {what}({}) is {}, the original's {}", self.topic, input.shown(), got.shown(), want.shown());
-                println!("compare: seed {}, turn {}, after {n} that agree", self.seed, self.turn);
+                println!("compare: seed {}, turn {}, after {n} that agree, made smaller {times} times", self.seed, self.turn);
                 exit(1);
             }
             n += 1;
