@@ -1,7 +1,7 @@
 //! compare [TOPIC..] [--count N] [--seed N]                  runs topics beside the original (none named: those of the gate)
 //! compare [TOPIC..] --scale [--seconds S] [--seed N]        runs topics at scale (none named: all) for S seconds, 300 if not told
 //! compare --store TOPIC                                     writes the topic's stored answers into crates/stored_TOPIC
-//! compare --speed TOPIC                                     times the topic's calls beside the original's
+//! compare --speed [TOPIC]                                   times the calls of a topic, or of the table, beside the original's
 //!
 //! Without --scale each kind of call is run on as many inputs as its topic sets for the gate, or on N, and the stored answers are
 //! held to what --store would write. At scale smaller turns, each with inputs of its own, follow one another until the time is
@@ -32,7 +32,7 @@ pub struct Topic {
     pub gate: bool,
     pub compare: fn(&mut Run),
     pub store: Option<fn() -> Stored>,
-    /// Prints times.
+    /// Prints lines of `speed.rs`'s table.
     pub speed: Option<fn()>,
 }
 
@@ -221,7 +221,12 @@ fn main() {
                 }
                 return;
             }
-            "--speed" => return topic(&next()).speed.unwrap_or_else(|| stop("the topic times nothing"))(),
+            "--speed" => {
+                let named: Vec<&Topic> = args.map(|name| topic(&name)).collect();
+                let timed = if named.is_empty() { topics::TIMED.iter().collect() } else { named };
+                speed::heading();
+                return timed.iter().for_each(|topic| topic.speed.unwrap_or_else(|| stop("the topic times nothing"))());
+            }
             name => chosen.push(topic(name)),
         }
     }

@@ -15,6 +15,9 @@ mod rounds;
 mod sample;
 mod window;
 
+/// Whose calls make the table of times.
+pub const TIMED: &[Topic] = &[noise::TOPIC, edge::TOPIC, gradients::TOPIC, model::TOPIC];
+
 pub const ALL: &[Topic] = &[
     known::TOPIC,
     floats::TOPIC,

@@ -284,6 +284,7 @@ fn speed() {
         let states = [(state, original)];
         beside(
             &format!("covariance, side {side}"),
+            Some(2.0),
             &states,
             |(state, _)| state.covariance().0,
             |(_, original)| u32::from(original.covariance().is_none()),
@@ -293,11 +294,11 @@ fn speed() {
     let ours = std::cell::RefCell::new(State { origin: [0; 2], side: 32, gx: [0.0; 1024], gy: [0.0; 1024] });
     let theirs = std::cell::RefCell::new(ours.borrow().original());
     let add = |&(x, y): &(i32, i32)| -> u32 { ours.borrow_mut().add(x, y, [1.0, 2.0]) };
-    beside("add", &pixels, add, |&(x, y)| {
+    beside("add", None, &pixels, add, |&(x, y)| {
         theirs.borrow_mut().add(x, y, [1.0, 2.0]);
         0
     });
-    beside("reset, side 32", &[32], |&side| ours.borrow_mut().reset([0; 2], side), |&side| {
+    beside("reset, side 32", None, &[32], |&side| ours.borrow_mut().reset([0; 2], side), |&side| {
         theirs.borrow_mut().reset([0; 2], side);
         0
     });

@@ -1,9 +1,9 @@
 //! The quiet level, the start, the block sums, the rounds and the joining beside the original's, on slices of gates and squared
 //! outputs. Lengths lie around every multiple of 255 and 256 that a pass can have; gates and outputs stand on the thresholds.
 
-use super::{random::*, Run, Topic, Value};
+use super::{beside, random::*, Run, Topic, Value};
 use original::{counted, counts, noise};
-use std::{hint::black_box, ops::Range, time::Instant};
+use std::ops::Range;
 
 pub const TOPIC: Topic = Topic { name: "rounds", gate: true, compare, store: None, speed: Some(speed) };
 
@@ -423,7 +423,7 @@ fn noise_sigma(run: &mut Run) {
     }
 }
 
-/// Microseconds a call on the windows of a pass, ours and the original's in turns; the medians.
+/// The windows of a pass.
 fn speed() {
     let mut random = Random::new(1);
     let bands: [Windows; 4] = std::array::from_fn(|_| loop {
@@ -436,32 +436,13 @@ fn speed() {
     let counted::Sample { buf, kept, start } = sample.original();
     let original = noise::Sample { buf, kept, start };
     let Windows { gate, op } = &sample.windows;
-    beside("quantile", || our_quantile(gate) as f64, || noise::quantile(gate, 1.0 / 16.0) as f64);
-    beside("mean_quiet", || our_mean_quiet(&sample.windows, 1e5), || noise::mean_quiet(op, gate, 1e5));
-    beside(
+    let line = |what: &str, ours: &dyn Fn() -> f64, theirs: &dyn Fn() -> f64| beside(what, None, &[()], |_| ours(), |_| theirs());
+    line("quantile", &|| our_quantile(gate).into(), &|| noise::quantile(gate, 1.0 / 16.0).into());
+    line("mean_quiet", &|| our_mean_quiet(&sample.windows, 1e5), &|| noise::mean_quiet(op, gate, 1e5));
+    line(
         "admitted",
-        || unsafe { vuzgari_compare_admitted_sum(gate.as_ptr(), gate.len(), op.as_ptr(), op.len(), 4e4, 4e4) },
-        || noise::Band { gate, op }.admitted(4e4, 4e4).1,
+        &|| unsafe { vuzgari_compare_admitted_sum(gate.as_ptr(), gate.len(), op.as_ptr(), op.len(), 4e4, 4e4) },
+        &|| noise::Band { gate, op }.admitted(4e4, 4e4).1,
     );
-    beside("noise_sigma", || sample.ours(vuzgari_compare_noise_sigma) as f64, || noise::noise_sigma(&original).unwrap_or(0.0) as f64);
-}
-
-fn beside(what: &str, ours: impl Fn() -> f64, theirs: impl Fn() -> f64) {
-    let time = |call: &dyn Fn() -> f64| {
-        let began = Instant::now();
-        for _ in 0..20 {
-            black_box(call());
-        }
-        began.elapsed().as_secs_f64() * 1e6 / 20.0
-    };
-    let mut times = [vec![], vec![]];
-    for _ in 0..101 {
-        times[0].push(time(&ours));
-        times[1].push(time(&theirs));
-    }
-    let [ours, theirs] = times.map(|mut turns| {
-        turns.sort_by(f64::total_cmp);
-        turns[turns.len() / 2]
-    });
-    println!("{what}: {ours:.1} µs a call, the original's {theirs:.1}");
+    line("noise_sigma", &|| sample.ours(vuzgari_compare_noise_sigma).into(), &|| noise::noise_sigma(&original).unwrap_or(0.0).into());
 }

@@ -165,7 +165,7 @@ fn speed() {
                     counts[0]
                 };
                 let what = format!("collect {w} by {h}, {name}, W {windows}");
-                beside(&what, &[(); 1], ours, |_| noise::Sample::collect(&img, w, h, windows).0.start[1]);
+                beside(&what, None, &[()], ours, |_| noise::Sample::collect(&img, w, h, windows).0.start[1]);
             }
         }
     }

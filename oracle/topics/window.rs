@@ -101,6 +101,7 @@ fn speed() {
     let inputs: Vec<Placed> = repeat_with(|| Placed::any(&mut random, |random, _| random.bits() as u8)).take(4096).collect();
     beside(
         "gate of a window",
+        None,
         &inputs,
         |Placed { w, x, y, img }| unsafe { vuzgari_compare_window_gate(img.as_ptr(), img.len(), *w, y * w + x) },
         |Placed { w, x, y, img }| noise::window(&img[y * w..], *w, *x)[1],
