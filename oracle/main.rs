@@ -1,11 +1,14 @@
-//! compare [TOPIC..] [--seconds S | --count N] [--seed S]    runs topics beside the original (none named: those of the gate)
+//! compare [TOPIC..] [--count N] [--seed N]                  runs topics beside the original (none named: those of the gate)
+//! compare [TOPIC..] --scale [--seconds S] [--seed N]        runs topics at scale (none named: all) for S seconds, 300 if not told
 //! compare --store TOPIC                                     writes the topic's stored answers into crates/stored_TOPIC
-//! compare --speed TOPIC                                     times the topic's calls beside the original's
+//! compare --speed [TOPIC]                                   times the calls of a topic, or of the table, beside the original's
 //!
-//! Without --seconds and --count each kind of call is run on as many inputs as its topic sets for the gate, and the stored answers
-//! are held to what --store would write. --count sets that number. --seconds runs smaller turns, each with inputs of its own, until
-//! the time is over. The first difference ends the run with status 1: it is made smaller while it still differs, and printed as a
-//! call, with floats as hexadecimal patterns.
+//! Without --scale each kind of call is run on as many inputs as its topic sets for the gate, or on N, and the stored answers are
+//! held to what --store would write. At scale smaller turns, each with inputs of its own, follow one another until the time is
+//! over; fixed lists are cut into SLICES slices, one to a turn. The first turn is always whole. The same seed gives the same
+//! inputs; --turn T begins at turn T. Progress goes to standard error, the counts of what was compared come at the end. The first
+//! difference ends the run with status 1: its sides and counts are halved while it still differs, and it is printed as a call,
+//! with floats as hexadecimal patterns.
 
 mod images;
 mod random;
@@ -29,7 +32,7 @@ pub struct Topic {
     pub gate: bool,
     pub compare: fn(&mut Run),
     pub store: Option<fn() -> Stored>,
-    /// Prints times.
+    /// Prints lines of `speed.rs`'s table.
     pub speed: Option<fn()>,
 }
 
@@ -54,6 +57,13 @@ enum Limit {
     Seconds(u64),
 }
 
+/// Seeds where none is given: of the gate and of a run at scale.
+const SEEDS: [u64; 2] = [1, 2];
+/// Seconds of a run at scale where none are given.
+const SECONDS: u64 = 300;
+/// Into how many turns of a run at scale a fixed list is cut.
+const SLICES: u64 = 16;
+
 pub struct Run {
     limit: Limit,
     seed: u64,
@@ -61,6 +71,8 @@ pub struct Run {
     topic: &'static str,
     began: Instant,
     told: Instant,
+    /// Inputs compared so far.
+    compared: u64,
     /// What was compared, or counted apart, and how often.
     counts: BTreeMap<String, u64>,
 }
@@ -77,8 +89,19 @@ impl Run {
         match self.limit {
             Limit::Gate => gate,
             Limit::Count(n) => n,
-            Limit::Seconds(_) => (gate / 16).max(1),
+            Limit::Seconds(_) => (gate / 8).max(1),
         }
+    }
+
+    /// A list of the same inputs in every turn: those that fall to this turn, each once in a run.
+    pub fn once<I: Iterator>(&self, list: I) -> impl Iterator<Item = I::Item> + use<I> {
+        self.slice(list).take(if self.turn < SLICES { usize::MAX } else { 0 })
+    }
+
+    /// A list whose inputs are made anew in every turn: those that fall to this turn.
+    pub fn slice<I: Iterator>(&self, list: I) -> impl Iterator<Item = I::Item> + use<I> {
+        let (skip, step) = if let Limit::Seconds(_) = self.limit { (self.turn % SLICES, SLICES) } else { (0, 1) };
+        list.skip(skip as usize).step_by(step as usize)
     }
 
     /// Compares the call `what` with the original's on each input.
@@ -92,19 +115,23 @@ impl Run {
         let mut n = 0;
         for mut input in inputs {
             if !ours(&input).same(&theirs(&input)) {
+                let mut times = 0;
                 while let Some(smaller) = input.smaller().into_iter().find(|input| !ours(input).same(&theirs(input))) {
                     input = smaller;
+                    times += 1;
                 }
                 let (got, want) = (ours(&input), theirs(&input));
                 println!("compare: {} {what}({}) is {}, the original's {}", self.topic, input.shown(), got.shown(), want.shown());
-                println!("compare: seed {}, turn {}, after {n} that agree", self.seed, self.turn);
+                println!("compare: seed {}, turn {}, after {n} that agree, made smaller {times} times", self.seed, self.turn);
                 exit(1);
             }
             n += 1;
-            if n % (1 << 16) == 0 {
+            if n % (1 << 12) == 0 {
                 self.progress(what, n);
             }
         }
+        self.progress(what, n);
+        self.compared += n;
         self.count(what, n);
     }
 
@@ -127,7 +154,8 @@ impl Run {
     fn progress(&mut self, what: &str, n: u64) {
         if self.told.elapsed() >= Duration::from_secs(10) {
             self.told = Instant::now();
-            eprintln!("compare: {} s, turn {}, {} {what}, {n} inputs", self.began.elapsed().as_secs(), self.turn, self.topic);
+            let (seconds, compared) = (self.began.elapsed().as_secs(), self.compared + n);
+            eprintln!("compare: {seconds} s, turn {}, {compared} inputs agree; {} {what}, {n} this turn", self.turn, self.topic);
         }
     }
 
@@ -135,6 +163,27 @@ impl Run {
         match self.limit {
             Limit::Gate | Limit::Count(_) => true,
             Limit::Seconds(s) => self.began.elapsed() >= Duration::from_secs(s),
+        }
+    }
+
+    /// Runs the topics, in turns where a time is set; the first turn is run to its end.
+    fn turns(&mut self, topics: &[&Topic]) {
+        let first = self.turn;
+        loop {
+            for topic in topics {
+                self.topic = topic.name;
+                (topic.compare)(self);
+                if let (Limit::Gate, Some(store)) = (self.limit, topic.store) {
+                    self.stored(store());
+                }
+                if self.turn > first && self.over() {
+                    return;
+                }
+            }
+            if self.over() {
+                return;
+            }
+            self.turn += 1;
         }
     }
 }
@@ -152,17 +201,18 @@ fn topic(name: &str) -> &'static Topic {
 }
 
 fn main() {
-    let mut limit = Limit::Gate;
-    let mut seed = 1;
+    let (mut scale, mut seconds, mut count, mut seed, mut turn) = (false, None, None, None, 0);
     let mut chosen: Vec<&Topic> = vec![];
     let mut args = std::env::args().skip(1);
     while let Some(word) = args.next() {
         let mut next = || args.next().unwrap_or_else(|| stop(&format!("{word} needs a word after it")));
         let number = |text: String| text.parse().unwrap_or_else(|_| stop(&format!("{text} is no number")));
         match word.as_str() {
-            "--seconds" => limit = Limit::Seconds(number(next())),
-            "--count" => limit = Limit::Count(number(next())),
-            "--seed" => seed = number(next()),
+            "--scale" => scale = true,
+            "--seconds" => seconds = Some(number(next())),
+            "--count" => count = Some(number(next())),
+            "--seed" => seed = Some(number(next())),
+            "--turn" => turn = number(next()),
             "--store" => {
                 let topic = topic(&next());
                 let store = topic.store.unwrap_or_else(|| stop("the topic stores nothing"));
@@ -171,30 +221,34 @@ fn main() {
                 }
                 return;
             }
-            "--speed" => return topic(&next()).speed.unwrap_or_else(|| stop("the topic times nothing"))(),
+            "--speed" => {
+                let named: Vec<&Topic> = args.map(|name| topic(&name)).collect();
+                let timed = if named.is_empty() { topics::TIMED.iter().collect() } else { named };
+                speed::heading();
+                return timed.iter().for_each(|topic| topic.speed.unwrap_or_else(|| stop("the topic times nothing"))());
+            }
             name => chosen.push(topic(name)),
         }
     }
+    let limit = match (scale, seconds, count) {
+        (true, seconds, None) => Limit::Seconds(seconds.unwrap_or(SECONDS)),
+        (false, None, Some(n)) => Limit::Count(n),
+        (false, None, None) if turn == 0 => Limit::Gate,
+        _ => stop("--seconds and --turn go with --scale, --count goes without"),
+    };
     if chosen.is_empty() {
-        chosen.extend(topics::ALL.iter().filter(|topic| topic.gate));
+        chosen.extend(topics::ALL.iter().filter(|topic| topic.gate || scale));
+    }
+    let seed = seed.unwrap_or(SEEDS[usize::from(scale)]);
+    if let Limit::Seconds(s) = limit {
+        eprintln!("compare: seed {seed}, {s} s, from turn {turn}");
     }
     let now = Instant::now();
-    let mut run = Run { limit, seed, turn: 0, topic: "", began: now, told: now, counts: BTreeMap::new() };
-    loop {
-        for topic in &chosen {
-            run.topic = topic.name;
-            (topic.compare)(&mut run);
-            if let (Limit::Gate, Some(store)) = (limit, topic.store) {
-                run.stored(store());
-            }
-        }
-        run.turn += 1;
-        if run.over() {
-            break;
-        }
-    }
+    let mut run = Run { limit, seed, turn, topic: "", began: now, told: now, compared: 0, counts: BTreeMap::new() };
+    run.turns(&chosen);
     for (what, n) in &run.counts {
         println!("compare: {what}: {n}");
     }
-    println!("compare: no difference, seed {seed}, {} turns, {:.1} s", run.turn, now.elapsed().as_secs_f64());
+    let (turns, compared) = (run.turn + 1 - turn, run.compared);
+    println!("compare: no difference, seed {seed}, {turns} turns, {compared} inputs, {:.1} s", now.elapsed().as_secs_f64());
 }

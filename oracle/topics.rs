@@ -1,7 +1,7 @@
 //! The topics: a file each, named here. What a topic calls that is not among the library's C calls, a module of crates/compare
 //! exports for it.
 
-use crate::{images, images::Image, random, speed::beside, value::Value, Run, Stored, Topic};
+use crate::{images, images::Image, random, speed::beside, value::{Count, Value}, Run, Stored, Topic};
 
 mod edge;
 mod floats;
@@ -15,6 +15,9 @@ mod patterns;
 mod rounds;
 mod sample;
 mod window;
+
+/// Whose calls make the table of times.
+pub const TIMED: &[Topic] = &[noise::TOPIC, edge::TOPIC, gradients::TOPIC, model::TOPIC];
 
 pub const ALL: &[Topic] = &[
     known::TOPIC,

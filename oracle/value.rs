@@ -3,7 +3,7 @@
 pub trait Value {
     fn same(&self, other: &Self) -> bool;
     fn shown(&self) -> String;
-    /// With sides or counts halved.
+    /// Other inputs of the same call, with sides or counts halved.
     fn smaller(&self) -> Vec<Self>
     where
         Self: Sized,
@@ -43,12 +43,22 @@ plain!(bool, u8, u32, i32, u64, i64, usize, String);
 
 macro_rules! tuples {
     ($(($($name:ident $at:tt),*))*) => {$(
-        impl<$($name: Value),*> Value for ($($name,)*) {
+        impl<$($name: Value + Clone),*> Value for ($($name,)*) {
             fn same(&self, other: &Self) -> bool {
                 $(self.$at.same(&other.$at))&&*
             }
             fn shown(&self) -> String {
                 [$(self.$at.shown()),*].join(", ")
+            }
+            /// One part smaller: the parts must be free of each other.
+            fn smaller(&self) -> Vec<Self> {
+                let mut all = vec![];
+                $(all.extend(self.$at.smaller().into_iter().map(|part| {
+                    let mut whole = self.clone();
+                    whole.$at = part;
+                    whole
+                }));)*
+                all
             }
         }
     )*};
@@ -65,12 +75,38 @@ impl<T: Value> Value for [T] {
     }
 }
 
-impl<T: Value, const N: usize> Value for [T; N] {
+/// One element smaller.
+impl<T: Value + Clone, const N: usize> Value for [T; N] {
     fn same(&self, other: &Self) -> bool {
         self[..].same(&other[..])
     }
     fn shown(&self) -> String {
         self[..].shown()
+    }
+    fn smaller(&self) -> Vec<Self> {
+        let at = |k: usize, part: T| {
+            let mut whole = self.clone();
+            whole[k] = part;
+            whole
+        };
+        (0..N).flat_map(|k| self[k].smaller().into_iter().map(move |part| at(k, part))).collect()
+    }
+}
+
+/// A whole number that may be halved down to LEAST, whatever it stands beside.
+#[derive(Clone, Copy, Debug, PartialEq)]
+pub struct Count<const LEAST: usize>(pub usize);
+
+impl<const LEAST: usize> Value for Count<LEAST> {
+    fn same(&self, other: &Self) -> bool {
+        self == other
+    }
+    fn shown(&self) -> String {
+        self.0.to_string()
+    }
+    fn smaller(&self) -> Vec<Self> {
+        let half = self.0 / 2;
+        if half >= LEAST && half < self.0 { vec![Count(half)] } else { vec![] }
     }
 }
 

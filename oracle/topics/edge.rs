@@ -1,9 +1,9 @@
 //! The edge call through its C export beside the original's `edge_width`, with the eight roots sorted; what the order of the
 //! roots changes in the original as it stands is counted.
 
-use super::{random::*, Run, Topic, Value};
+use super::{beside, random::*, Run, Topic, Value};
 use original::{imageview::ImageView, sorted, uncertainty};
-use std::{hint::black_box, iter::repeat_with, rc::Rc, time::Instant};
+use std::{cell::RefCell, iter::repeat_with, ops::Range, rc::Rc};
 
 pub const TOPIC: Topic = Topic { name: "edge", gate: true, compare, store: None, speed: Some(speed) };
 
@@ -41,9 +41,29 @@ impl Value for Call {
         let Call { pixels, sides: [w, h], origin, centre } = self;
         format!("{pixels:?}, {w}, {h}, {origin:?}, {centre:?}")
     }
+    /// A half of the image with its pixels; where there are none, or not as many, half of a side or of the pixels.
+    fn smaller(&self) -> Vec<Self> {
+        let [w, h] = self.sides;
+        if self.pixels.is_empty() || w.checked_mul(h) != Some(self.pixels.len()) {
+            let halves = [(w / 2, h, self.pixels.len()), (w, h / 2, self.pixels.len()), (w, h, self.pixels.len() / 2)];
+            let calls = halves.map(|(w, h, n)| Call { sides: [w, h], pixels: Rc::new(self.pixels[..n].to_vec()), ..self.clone() });
+            return calls.into_iter().filter(|call| call.sides != self.sides || call.pixels.len() < self.pixels.len()).collect();
+        }
+        let halves = [(0..w / 2, 0..h), (w - w / 2..w, 0..h), (0..w, 0..h / 2), (0..w, h - h / 2..h)];
+        let calls = halves.map(|(columns, rows)| self.cut(columns, rows));
+        calls.into_iter().filter(|call| call.sides != self.sides).collect()
+    }
 }
 
 impl Call {
+    /// The columns and rows given, and the centre where it was in them.
+    fn cut(&self, columns: Range<usize>, rows: Range<usize>) -> Self {
+        let pixels = rows.clone().flat_map(|y| &self.pixels[y * self.sides[0]..][columns.clone()]).copied().collect();
+        let ([cx, cy], moved) = (self.centre, [columns.start, rows.start].map(|n| n as i32));
+        let centre = [cx.saturating_sub(moved[0]), cy.saturating_sub(moved[1])];
+        Call { pixels: Rc::new(pixels), sides: [columns.len(), rows.len()], centre, ..self.clone() }
+    }
+
     fn ours(&self) -> u64 {
         let ([w, h], [ox, oy], [cx, cy]) = (self.sides, self.origin, self.centre);
         // SAFETY: the pixels live through the call, which reads no others.
@@ -190,7 +210,7 @@ fn painted(random: &mut Random, sides: [usize; 2]) -> Call {
     Call { pixels: Rc::new(pixels), sides, origin: [0, 0], centre: [0, 0] }
 }
 
-/// Nanoseconds for a call inside an image and at its border, ours and the original's in turns; the medians of the turns.
+/// Inside an image and at its border: the tile loaded and its width taken.
 fn speed() {
     let mut random = Random::new(1);
     let call = painted(&mut random, [64, 64]);
@@ -198,20 +218,11 @@ fn speed() {
     let border = spread(call, &mut random, |random| [random.pick(&[-3, 2, 61, 66]), random.below(64) as i32]);
     for (what, calls) in [("inside", inside), ("border", border)] {
         let view = ImageView::with_origin(64, 64, &calls[0].pixels, [0, 0]).expect("the pixels fit the sides");
-        let mut tile = uncertainty::PixelTile::default();
-        let mut times = [vec![], vec![]];
-        for _ in 0..401 {
-            let began = Instant::now();
-            calls.iter().for_each(|call| _ = black_box(call.ours()));
-            times[0].push(began.elapsed().as_secs_f64() * 1e9 / calls.len() as f64);
-            let began = Instant::now();
-            calls.iter().for_each(|call| _ = black_box(uncertainty::edge_width(&view, call.centre, &mut tile)));
-            times[1].push(began.elapsed().as_secs_f64() * 1e9 / calls.len() as f64);
-        }
-        let [ours, theirs] = times.map(|mut list| {
-            list.sort_by(f64::total_cmp);
-            list[list.len() / 2]
-        });
-        println!("edge {what}: {ours:.0} ns, the original's {theirs:.0} ns, ratio {:.2}", ours / theirs);
+        let tile = RefCell::default();
+        let theirs = |call: &Call| {
+            let width = uncertainty::edge_width(&view, call.centre, &mut tile.borrow_mut());
+            width.map_or(0, |width| width.to_bits().into())
+        };
+        beside(&format!("edge, {what}"), Some(1.25), &calls, Call::ours, theirs);
     }
 }

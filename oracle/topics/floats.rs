@@ -47,7 +47,7 @@ fn one<A: Value + Copy, R: Value>(
 ) {
     let mut random = run.random(what);
     let seeded = repeat_with(|| input(&mut random)).take(run.size(GATE) as usize);
-    run.same(what, specials.iter().copied().chain(seeded), |&x| ours(x), |&x| theirs(x));
+    run.same(what, run.once(specials.iter().copied()).chain(seeded), |&x| ours(x), |&x| theirs(x));
 }
 
 /// A helper of two arguments.
@@ -62,7 +62,7 @@ fn two<A: Value + Copy, R: Value>(
     let mut random = run.random(what);
     let pairs = specials.iter().flat_map(|&a| specials.iter().map(move |&b| (a, b)));
     let seeded = repeat_with(|| (input(&mut random), input(&mut random))).take(run.size(GATE) as usize);
-    run.same(what, pairs.chain(seeded), ours, theirs);
+    run.same(what, run.once(pairs).chain(seeded), ours, theirs);
 }
 
 /// A maximum or minimum. Rust leaves open which of two zeros it answers: any zero is right there, and those of the other sign
@@ -180,8 +180,8 @@ fn speed() {
     let mut random = Random::new(1);
     let doubles: Vec<f64> = repeat_with(|| random.below(1 << 32) as f64 / 3.0).take(4096).collect();
     let singles: Vec<f32> = doubles.iter().map(|&x| x as f32).collect();
-    beside("sqrt32", &singles, |&x| vuzgari_compare_sqrt32(x), |&x| x.sqrt());
-    beside("floor32", &singles, |&x| vuzgari_compare_floor32(x), |&x| x.floor());
-    beside("sqrt64", &doubles, |&x| vuzgari_compare_sqrt64(x), |&x| x.sqrt());
-    beside("to_f32", &doubles, |&x| vuzgari_compare_to_f32(x), |&x| x as f32);
+    beside("sqrt32", None, &singles, |&x| vuzgari_compare_sqrt32(x), |&x| x.sqrt());
+    beside("floor32", None, &singles, |&x| vuzgari_compare_floor32(x), |&x| x.floor());
+    beside("sqrt64", None, &doubles, |&x| vuzgari_compare_sqrt64(x), |&x| x.sqrt());
+    beside("to_f32", None, &doubles, |&x| vuzgari_compare_to_f32(x), |&x| x as f32);
 }

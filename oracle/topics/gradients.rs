@@ -1,6 +1,6 @@
 //! The gradient accumulator: document 01's numbers in their order, and what is accepted beside the original's.
 
-use super::{beside, random::*, Run, Topic, Value};
+use super::{beside, random::*, Count, Run, Topic, Value};
 use original::uncertainty::PixelGradients;
 use std::{collections::BTreeMap, iter::repeat_with};
 
@@ -141,18 +141,18 @@ impl Value for State {
         let cells: Vec<String> = cells.map(|k| format!("{k}: {} {}", self.gx[k].shown(), self.gy[k].shown())).collect();
         format!("origin {}, side {}, cells {}", self.origin.shown(), self.side, cells.join(", "))
     }
-    /// With half of the cells cleared.
+    /// With half of the side, or half of the cells cleared.
     fn smaller(&self) -> Vec<Self> {
+        let narrow = (self.side > 0).then(|| State { side: self.side / 2, ..self.clone() });
         let used: Vec<usize> = (0..1024).filter(|&k| self.gx[k].to_bits() | self.gy[k].to_bits() != 0).collect();
         let without = |cells: &[usize]| {
             let mut state = self.clone();
             cells.iter().for_each(|&k| (state.gx[k], state.gy[k]) = (0.0, 0.0));
             state
         };
-        match used.len() {
-            0 => vec![],
-            n => vec![without(&used[..n.div_ceil(2)]), without(&used[n / 2..])],
-        }
+        let n = used.len();
+        let clear = [&used[..n.div_ceil(2)], &used[n / 2..]].into_iter().filter(|cells| !cells.is_empty()).map(without);
+        narrow.into_iter().chain(clear).collect()
     }
 }
 
@@ -167,7 +167,8 @@ impl<T: Value + Clone> Value for Call<T> {
         format!("{}; {}", self.0.shown(), self.1.shown())
     }
     fn smaller(&self) -> Vec<Self> {
-        self.0.smaller().into_iter().map(|state| Call(state, self.1.clone())).collect()
+        let given = self.1.smaller().into_iter().map(|given| Call(self.0.clone(), given));
+        self.0.smaller().into_iter().map(|state| Call(state, self.1.clone())).chain(given).collect()
     }
 }
 
@@ -248,12 +249,12 @@ fn compare(run: &mut Run) {
         let origin = [random.below(4_001) as i32 - 2_000, random.below(4_001) as i32 - 2_000];
         let side = random.below(33) as usize;
         let adds = (0..random.below(200)).map(|_| (origin.map(|z| z + random.below(side.max(1) as u64) as i32), addends(&mut random)));
-        (origin, side, adds.filter(|(_, v)| v.iter().all(|v| v.is_finite())).collect::<Vec<_>>())
+        (origin, Count::<0>(side), adds.filter(|(_, v)| v.iter().all(|v| v.is_finite())).collect::<Vec<_>>())
     });
     run.same(
         "sums",
         steps.take(run.size(10_000) as usize),
-        |(origin, side, adds)| {
+        |(origin, Count(side), adds)| {
             let mut state = State { origin: [7, 7], side: 99, gx: [f32::NAN; 1024], gy: [1.0; 1024] };
             state.reset(*origin, *side);
             for &([x, y], v) in adds {
@@ -261,7 +262,7 @@ fn compare(run: &mut Run) {
             }
             state.covariance()
         },
-        |(origin, side, adds)| {
+        |(origin, Count(side), adds)| {
             let mut sums = PixelGradients::default();
             sums.reset(*origin, *side);
             if *side > 0 {
@@ -283,6 +284,7 @@ fn speed() {
         let states = [(state, original)];
         beside(
             &format!("covariance, side {side}"),
+            Some(2.0),
             &states,
             |(state, _)| state.covariance().0,
             |(_, original)| u32::from(original.covariance().is_none()),
@@ -292,11 +294,11 @@ fn speed() {
     let ours = std::cell::RefCell::new(State { origin: [0; 2], side: 32, gx: [0.0; 1024], gy: [0.0; 1024] });
     let theirs = std::cell::RefCell::new(ours.borrow().original());
     let add = |&(x, y): &(i32, i32)| -> u32 { ours.borrow_mut().add(x, y, [1.0, 2.0]) };
-    beside("add", &pixels, add, |&(x, y)| {
+    beside("add", None, &pixels, add, |&(x, y)| {
         theirs.borrow_mut().add(x, y, [1.0, 2.0]);
         0
     });
-    beside("reset, side 32", &[32], |&side| ours.borrow_mut().reset([0; 2], side), |&side| {
+    beside("reset, side 32", None, &[32], |&side| ours.borrow_mut().reset([0; 2], side), |&side| {
         theirs.borrow_mut().reset([0; 2], side);
         0
     });

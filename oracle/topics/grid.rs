@@ -1,7 +1,7 @@
 //! The grid's whole numbers beside the float expressions of `Sample::collect`: every pair of row and step, both sides of every
 //! step's threshold at every width, then the windows of passes with seeded sides.
 
-use super::{Run, Topic};
+use super::{Count, Run, Topic};
 use original::grid;
 use std::iter::repeat_with;
 
@@ -24,10 +24,25 @@ pub const PASSES: [usize; 2] = [8_192, 32_768];
 const GATE: u64 = 20_000;
 
 fn compare(run: &mut Run) {
-    run.same("first x of every row and step", pairs(), |&(j, s)| vuzgari_compare_first_x(j, s), |&(j, s)| grid::grid_row(SIDE, s, j).0);
-    let widths = pairs().flat_map(|(j, s)| (4..=2 * s + 4).chain([SIDE]).map(move |w| (w, s, j)));
-    run.same("windows of a row", widths, |&(w, s, j)| vuzgari_compare_row_count(w, s, j), |&(w, s, j)| grid::grid_row(w, s, j).1);
-    run.same("step beside every threshold", thresholds(), |&(w, h, n)| vuzgari_compare_step(w, h, n), |&(w, h, n)| grid::step(w, h, n));
+    run.same(
+        "first x of every row and step",
+        run.once(pairs()),
+        |&(Count(j), Count(s))| vuzgari_compare_first_x(j, s),
+        |&(Count(j), Count(s))| grid::grid_row(SIDE, s, j).0,
+    );
+    let widths = pairs().flat_map(|(j, s)| (4..=2 * s.0 + 4).chain([SIDE]).map(move |w| (Count::<4>(w), s, j)));
+    run.same(
+        "windows of a row",
+        run.once(widths),
+        |&(Count(w), Count(s), Count(j))| vuzgari_compare_row_count(w, s, j),
+        |&(Count(w), Count(s), Count(j))| grid::grid_row(w, s, j).1,
+    );
+    run.same(
+        "step beside every threshold",
+        run.once(thresholds()),
+        |&(Count(w), Count(h), n)| vuzgari_compare_step(w, h, n),
+        |&(Count(w), Count(h), n)| grid::step(w, h, n),
+    );
 
     let corners = [(4, 4), (4, SIDE), (SIDE, 4), (SIDE, SIDE), (16_056, 25), (15_887, 132)];
     let mut random = run.random("sides");
@@ -35,25 +50,36 @@ fn compare(run: &mut Run) {
         let most = random.pick(&[40, 400, SIDE as u64 - 3]);
         4 + random.below(most) as usize
     };
-    let seeded: Vec<_> = repeat_with(|| (side(), side())).take(run.size(GATE) as usize).collect();
-    let sides = || corners.iter().chain(&seeded).copied();
-    let passes = sides().flat_map(|(w, h)| PASSES.map(|n| (w, h, n)));
-    run.same("windows of a pass", passes, |&(w, h, n)| vuzgari_compare_windows(w, h, n), |&(w, h, n)| total(w, h, n));
-    run.same("windows that memory is needed for", sides(), |&(w, h)| vuzgari_compare_needed(w, h), |&(w, h)| needed(w, h));
+    let seeded = repeat_with(|| (side(), side())).take(run.size(GATE) as usize);
+    let sides: Vec<Sides> = run.once(corners.into_iter()).chain(seeded).map(|(w, h)| (Count(w), Count(h))).collect();
+    run.same(
+        "windows of a pass",
+        sides.iter().flat_map(|&(w, h)| PASSES.map(|n| (w, h, n))),
+        |&(Count(w), Count(h), n)| vuzgari_compare_windows(w, h, n),
+        |&(Count(w), Count(h), n)| total(w, h, n),
+    );
+    run.same(
+        "windows that memory is needed for",
+        sides.iter().copied(),
+        |&(Count(w), Count(h))| vuzgari_compare_needed(w, h),
+        |&(Count(w), Count(h))| needed(w, h),
+    );
 }
 
+type Sides = (Count<4>, Count<4>);
+
 /// Every row and step that an image can have.
-fn pairs() -> impl Iterator<Item = (usize, usize)> {
-    (1..=STEPS).flat_map(|s| (0..(SIDE - 3).div_ceil(s)).map(move |j| (j, s)))
+fn pairs() -> impl Iterator<Item = (Count<0>, Count<1>)> {
+    (1..=STEPS).flat_map(|s| (0..(SIDE - 3).div_ceil(s)).map(move |j| (Count(j), Count(s))))
 }
 
 /// For each threshold and each width the heights on both sides of it.
-fn thresholds() -> impl Iterator<Item = (usize, usize, usize)> {
+fn thresholds() -> impl Iterator<Item = (Count<4>, Count<4>, usize)> {
     PASSES.into_iter().flat_map(|n| {
         (1..=STEPS).flat_map(move |s| {
             (4..=SIDE).flat_map(move |w| {
                 let low = s * s * n / w;
-                [low, low + 1].into_iter().filter(|h| (4..=SIDE).contains(h)).map(move |h| (w, h, n))
+                [low, low + 1].into_iter().filter(|h| (4..=SIDE).contains(h)).map(move |h| (Count(w), Count(h), n))
             })
         })
     })

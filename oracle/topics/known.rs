@@ -24,8 +24,8 @@ fn stripes(x: usize) -> u8 {
 const GRIDS: [(usize, usize, usize, usize, usize); 2] = [(16_056, 25, 8_192, 7, 9_174), (15_887, 132, 32_768, 8, 33_754)];
 
 fn compare(run: &mut Run) {
-    run.same("lids", 0..LIDS.len(), |&k| LIDS[k].3.to_string(), |&k| line(LIDS[k].0, LIDS[k].1, LIDS[k].2));
-    run.same("grids", 0..GRIDS.len(), |&k| (GRIDS[k].3, GRIDS[k].4), |&k| {
+    run.same("lids", run.once(0..LIDS.len()), |&k| LIDS[k].3.to_string(), |&k| line(LIDS[k].0, LIDS[k].1, LIDS[k].2));
+    run.same("grids", run.once(0..GRIDS.len()), |&k| (GRIDS[k].3, GRIDS[k].4), |&k| {
         let (w, h, windows, ..) = GRIDS[k];
         let step = grid::step(w, h, windows);
         (step, grid::total(w, h, step))

@@ -142,10 +142,10 @@ impl Value for Knots {
         let knots: Vec<String> = (0..16).map(|k| [self.widths[k], self.gains[k], self.residuals[k]].shown()).collect();
         format!("count {}, floor {}, knots {}", self.count, self.floor.shown(), knots.join(" "))
     }
-    /// With a knot less.
+    /// With half of the knots, or one less.
     fn smaller(&self) -> Vec<Self> {
-        let one_less = |count| Knots { count, ..self.clone() };
-        (1..self.count.min(18)).rev().take(1).map(one_less).collect()
+        let less = [self.count / 2, self.count.saturating_sub(1)].into_iter().filter(|&count| count > 0);
+        less.map(|count| Knots { count, ..self.clone() }).collect()
     }
 }
 
@@ -195,13 +195,17 @@ fn at_level(ours: extern "C" fn(&[f32; 3], &[f32; 3], &[f32; 2], f32, &mut [f32;
     }
 }
 
-fn their_level((noise, systematic, growth, sigma): &Level, figure: fn(&CovarianceModel, f32) -> PositionCovariance) -> (u32, [f32; 3]) {
+fn level_model(&(noise, systematic, growth, _): &Level) -> CovarianceModel {
+    CovarianceModel { noise: of(noise), systematic: of(systematic), growth }
+}
+
+fn their_level(level: &Level, figure: fn(&CovarianceModel, f32) -> PositionCovariance) -> (u32, [f32; 3]) {
+    let (noise, systematic, growth, sigma) = level;
     let ranged = noise.iter().all(|&x| within(1e6, x))
         && systematic.iter().all(|x| x.is_finite())
         && growth.iter().all(|&x| within(1000.0, x))
         && (sigma.is_nan() || within(1000.0, *sigma));
-    let model = CovarianceModel { noise: of(*noise), systematic: of(*systematic), growth: *growth };
-    if ranged { (0, floats(figure(&model, *sigma))) } else { (12, [0.0; 3]) }
+    if ranged { (0, floats(figure(&level_model(level), *sigma))) } else { (12, [0.0; 3]) }
 }
 
 fn compare(run: &mut Run) {
@@ -249,7 +253,7 @@ fn compare(run: &mut Run) {
         None,
         1.0,
     )];
-    run.same("model", known.into_iter().chain(estimates.take(run.size(500_000) as usize)), ours_model, |estimate| {
+    run.same("model", run.once(known.into_iter()).chain(estimates.take(run.size(500_000) as usize)), ours_model, |estimate| {
         let answer = their_model(estimate);
         met("model", answer.0);
         answer
@@ -288,11 +292,12 @@ fn speed() {
     let estimates: Vec<Estimate> =
         (0..4096).map(|_| (knots.clone(), [1.0, 0.5, 1.0], [0.25, 0.5], Some(random.below(1600) as f32 / 100.0), 1.0)).collect();
     knots.original(|model| {
-        beside("model, 16 knots", &estimates, |estimate| ours_model(estimate).1[3], |(_, noise, offset, width, grid)| {
+        beside("model, 16 knots", Some(2.0), &estimates, |estimate| ours_model(estimate).1[3], |(_, noise, offset, width, grid)| {
             model.model(of(*noise), *offset, *width, *grid).systematic.xx
         })
     });
     let levels: Vec<Level> = (0..4096).map(|_| ([1.0, 0.5, 1.0], [1.0; 3], [0.0, 0.5], random.below(100) as f32 / 10.0)).collect();
-    beside("noise_at", &levels, |level| at_level(vuzgari_compare_noise_at)(level).1[0], |level| their_level(level, CovarianceModel::noise_at).1[0]);
-    beside("total", &levels, |level| at_level(vuzgari_compare_total)(level).1[0], |level| their_level(level, CovarianceModel::total).1[0]);
+    let levels: Vec<(Level, CovarianceModel)> = levels.into_iter().map(|level| (level, level_model(&level))).collect();
+    beside("noise_at", Some(2.0), &levels, |(level, _)| at_level(vuzgari_compare_noise_at)(level).1, |(level, model)| floats(model.noise_at(level.3)));
+    beside("total", Some(2.0), &levels, |(level, _)| at_level(vuzgari_compare_total)(level).1, |(level, model)| floats(model.total(level.3)));
 }

@@ -1,7 +1,7 @@
 //! The noise call and the sizing call as C makes them, beside the original with its counters: what is returned, the ten fields, and
 //! what is left in every lent slice and past it.
 
-use super::{beside, images::KINDS, random::Random, Image, Run, Topic, Value};
+use super::{beside, images::KINDS, random::Random, Count, Image, Run, Topic, Value};
 use original::{counted, counts, grid, noise};
 use std::{array, cell::RefCell, iter::repeat_with};
 
@@ -26,7 +26,7 @@ unsafe extern "C" {
 }
 
 fn compare(run: &mut Run) {
-    run.same("known lids", 0..LIDS.len(), |&k| line(LIDS[k].0, LIDS[k].1), |&k| LIDS[k].2.to_string());
+    run.same("known lids", run.once(0..LIDS.len()), |&k| line(LIDS[k].0, LIDS[k].1), |&k| LIDS[k].2.to_string());
     sizes(run);
     answers(run);
     edges(run);
@@ -168,12 +168,12 @@ fn sizes(run: &mut Run) {
     let mut random = run.random("sizes");
     let every = (0..40).flat_map(|w| (0..400).map(move |h| (w, h)));
     let seeded = repeat_with(|| (side(&mut random), side(&mut random))).take(run.size(20_000) as usize);
-    let answer = |&(w, h): &(usize, usize)| match (w, h) {
+    let sides = run.once(every).chain(seeded).map(|(w, h)| (Count::<0>(w), Count::<0>(h)));
+    run.same("sizing", sides, |&(Count(w), Count(h))| vuzgari_noise_windows(w, h), |&(Count(w), Count(h))| match (w, h) {
         _ if w.max(h) > 16_384 => (1 << 32) + 1,
         _ if w.min(h) < 4 => (1 << 32) + 3,
         _ => needed(w, h) as u64,
-    };
-    run.same("sizing", every.chain(seeded), |&(w, h)| vuzgari_noise_windows(w, h), answer);
+    });
 }
 
 /// Images of every kind, in slices of just the length or longer ones.
@@ -183,12 +183,12 @@ fn answers(run: &mut Run) {
     let mut twice = 0;
     let calls = repeat_with(|| {
         let image = Image::any(&mut random);
-        let more: [usize; 3] = array::from_fn(|_| random.pick(&[0, 0, 1, 7]));
+        let more: [Count<0>; 3] = array::from_fn(|_| Count(random.pick(&[0, 0, 1, 7])));
         (image, more)
     });
-    let lent = |image: &Image, more: &[usize; 3]| {
+    let lent = |image: &Image, more: &[Count<0>; 3]| {
         let need = Lent::needed(image.w, image.h);
-        Lent { ints: need.ints + more[0], floats: need.floats + more[1], out: need.out + more[2] }
+        Lent { ints: need.ints + more[0].0, floats: need.floats + more[1].0, out: need.out + more[2].0 }
     };
     run.same(
         "images",
@@ -224,6 +224,12 @@ impl Value for Lid {
     fn shown(&self) -> String {
         format!("{self:?}")
     }
+    fn smaller(&self) -> Vec<Self> {
+        let (w, h) = self.sides;
+        let narrow = Lid { sides: (w / 2, h), part: self.part / 2, lower: self.lower / 2, ..self.clone() };
+        let low = Lid { sides: (w, h / 2), lower: self.lower / 2, ..self.clone() };
+        [narrow, low].into_iter().filter(|lid| lid.sides.0 >= 4 && lid.sides.1 >= 4).collect()
+    }
 }
 
 impl Lid {
@@ -251,7 +257,7 @@ fn edges(run: &mut Run) {
     });
     run.same(
         "lids at the thresholds",
-        lids,
+        run.slice(lids),
         |lid| ours(&lid.pixels(), lid.sides.0, lid.sides.1, Lent::needed(lid.sides.0, lid.sides.1)),
         |lid| {
             let left = theirs(&lid.pixels(), lid.sides.0, lid.sides.1, Lent::needed(lid.sides.0, lid.sides.1));
@@ -266,34 +272,71 @@ fn edges(run: &mut Run) {
     run.count("lids at the thresholds, second pass", twice);
 }
 
-/// Calls of which most are refused: sides out of range, pixels that are not w times h, slices one short or empty.
-fn refusals(run: &mut Run) {
-    let mut random = run.random("refusals");
-    let mut seen = [0; 8];
-    let calls = repeat_with(|| {
-        let mut side = || if random.below(4) == 0 { side(&mut random) } else { random.below(40) as usize };
+/// Sides, how many pixels, and the lengths of the slices; any at all.
+#[derive(Clone, Debug)]
+struct Call {
+    w: usize,
+    h: usize,
+    pixels: usize,
+    lent: [Count<0>; 3],
+}
+
+impl Call {
+    fn any(random: &mut Random) -> Self {
+        let mut side = || if random.below(4) == 0 { side(random) } else { random.below(40) as usize };
         let (w, h) = (side(), side());
         let pixels = match w.checked_mul(h) {
             Some(n) if n < 1 << 20 => (n + random.pick(&[0, 0, 0, 0, 1, 2])).saturating_sub(random.pick(&[0, 0, 0, 1])),
             _ => random.below(1000) as usize,
         };
         let need = if w.min(h) >= 4 && w.max(h) <= 16_384 { Lent::needed(w, h) } else { Lent { ints: 30, floats: 22, out: 40 } };
-        let mut length = |n: usize| match random.below(8) {
-            0 => n.saturating_sub(1),
-            1 => random.below(n as u64 + 1) as usize,
-            _ => n + random.below(3) as usize,
-        };
-        let lent = [length(need.ints), length(need.floats), length(need.out)];
-        (w, h, pixels, lent.to_vec())
-    });
-    let lent = |lent: &Vec<usize>| Lent { ints: lent[0], floats: lent[1], out: lent[2] };
-    let image = |pixels: usize| -> Vec<u8> { (0..pixels).map(|k| (k * k % 251) as u8).collect() };
+        let lent = [need.ints, need.floats, need.out].map(|n| match random.below(8) {
+            0 => Count(n.saturating_sub(1)),
+            1 => Count(random.below(n as u64 + 1) as usize),
+            _ => Count(n + random.below(3) as usize),
+        });
+        Call { w, h, pixels, lent }
+    }
+
+    fn on<R>(&self, call: fn(&[u8], usize, usize, Lent) -> R) -> R {
+        let pixels: Vec<u8> = (0..self.pixels).map(|k| (k * k % 251) as u8).collect();
+        let [Count(ints), Count(floats), Count(out)] = self.lent;
+        call(&pixels, self.w, self.h, Lent { ints, floats, out })
+    }
+
+    /// With other sides, and as many pixels if they were as many.
+    fn sized(&self, w: usize, h: usize) -> Self {
+        let fit = self.w.checked_mul(self.h) == Some(self.pixels);
+        Call { w, h, pixels: if fit { w * h } else { self.pixels }, ..self.clone() }
+    }
+}
+
+impl Value for Call {
+    fn same(&self, _: &Self) -> bool {
+        unreachable!("calls are not compared")
+    }
+    fn shown(&self) -> String {
+        format!("{self:?}")
+    }
+    fn smaller(&self) -> Vec<Self> {
+        let narrow = (self.w > 0).then(|| self.sized(self.w / 2, self.h));
+        let low = (self.h > 0).then(|| self.sized(self.w, self.h / 2));
+        let fewer = (self.pixels > 0).then(|| Call { pixels: self.pixels / 2, ..self.clone() });
+        let shorter = self.lent.smaller().into_iter().map(|lent| Call { lent, ..self.clone() });
+        narrow.into_iter().chain(low).chain(fewer).chain(shorter).collect()
+    }
+}
+
+/// Calls of which most are refused: sides out of range, pixels that are not w times h, slices one short or empty.
+fn refusals(run: &mut Run) {
+    let mut random = run.random("refusals");
+    let mut seen = [0; 8];
     run.same(
         "refusals",
-        calls.take(run.size(40_000) as usize),
-        |(w, h, pixels, slices)| ours(&image(*pixels), *w, *h, lent(slices)),
-        |(w, h, pixels, slices)| {
-            let left = theirs(&image(*pixels), *w, *h, lent(slices));
+        repeat_with(|| Call::any(&mut random)).take(run.size(40_000) as usize),
+        |call| call.on(ours),
+        |call| {
+            let left = call.on(theirs);
             seen[left.0 as usize] += 1;
             left
         },
@@ -303,15 +346,20 @@ fn refusals(run: &mut Run) {
     }
 }
 
-/// Every kind at the largest sides, the thinnest shapes, those with the most windows, and a camera's.
+/// Every kind at the largest sides, the thinnest shapes, those with the most windows, a camera's, and seeded ones.
 fn large(run: &mut Run) {
     let mut random = run.random("large");
     let sides = [(4, 16_384), (16_384, 4), (16_056, 25), (15_887, 132), (4_096, 3_072), (9_001, 77), (77, 9_001), (16_384, 16_384)];
     let mut twice = 0;
     let images = sides.iter().flat_map(|&(w, h)| (0..KINDS).map(move |kind| (w, h, kind)));
+    let images: Vec<Image> = images.map(|(w, h, kind)| Image { w, h, kind, seed: random.bits() }).collect();
+    let seeded = repeat_with(|| {
+        let [w, h] = [(); 2].map(|_| 4 << random.below(12)).map(|least| (least + random.below(least + 1)) as usize);
+        Image::sized(&mut random, w, h)
+    });
     run.same(
         "images",
-        images.map(|(w, h, kind)| Image { w, h, kind, seed: random.bits() }),
+        run.slice(images.into_iter()).chain(seeded.take(run.size(64) as usize)),
         |image| ours(&image.pixels(), image.w, image.h, Lent::needed(image.w, image.h)),
         |image| {
             let left = theirs(&image.pixels(), image.w, image.h, Lent::needed(image.w, image.h));
@@ -322,7 +370,8 @@ fn large(run: &mut Run) {
     run.count("images, second pass", twice);
 }
 
-/// The sizes and kinds of docs/RUNS.md's table.
+/// From a small lid to the largest; the stripes have a second pass where the step is above 1. Ours clears lent memory, the
+/// original takes its own from the heap.
 fn speed() {
     let mut random = Random::new(1);
     for (w, h) in [(26, 26), (640, 480), (1_920, 1_080), (4_096, 3_072), (16_384, 16_384)] {
@@ -341,7 +390,8 @@ fn speed() {
                 unsafe { vuzgari_noise(pixels.as_ptr(), w * h, w, h, ints, i.len(), floats, f.len(), out, 40) };
                 f32::from_le_bytes([o[4], o[5], o[6], o[7]])
             };
-            beside(&format!("noise, {w} by {h}, {what}"), &[()], ours, |_| noise::estimate_noise_sigma_u8(&pixels, w, h).unwrap_or(0.0));
+            let theirs = |_: &()| noise::estimate_noise_sigma_u8(&pixels, w, h).unwrap_or(0.0);
+            beside(&format!("noise, {w} by {h}, {what}"), Some(1.25), &[()], ours, theirs);
         }
     }
 }

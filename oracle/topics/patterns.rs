@@ -11,5 +11,5 @@ fn compare(run: &mut Run) {
 }
 
 fn every<R: Value>(run: &mut Run, what: &str, ours: extern "C" fn(f32) -> R, theirs: fn(f32) -> R) {
-    run.same(what, (0..=u32::MAX).map(f32::from_bits), |&x| ours(x), |&x| theirs(x));
+    run.same(what, run.once(0..=u32::MAX).map(f32::from_bits), |&x| ours(x), |&x| theirs(x));
 }

@@ -1,9 +1,9 @@
 //! The quiet level, the start, the block sums, the rounds and the joining beside the original's, on slices of gates and squared
 //! outputs. Lengths lie around every multiple of 255 and 256 that a pass can have; gates and outputs stand on the thresholds.
 
-use super::{random::*, Run, Topic};
+use super::{beside, random::*, Run, Topic, Value};
 use original::{counted, counts, noise};
-use std::{hint::black_box, time::Instant};
+use std::ops::Range;
 
 pub const TOPIC: Topic = Topic { name: "rounds", gate: true, compare, store: None, speed: Some(speed) };
 
@@ -25,7 +25,49 @@ unsafe extern "C" {
 }
 
 /// A band's gates and squared outputs, as many of each.
-type Windows = (Vec<f32>, Vec<f32>);
+#[derive(Clone, Default)]
+struct Windows {
+    gate: Vec<f32>,
+    op: Vec<f32>,
+}
+
+impl Windows {
+    fn part(&self, of: Range<usize>) -> Self {
+        Windows { gate: self.gate[of.clone()].to_vec(), op: self.op[of].to_vec() }
+    }
+}
+
+impl Value for Windows {
+    fn same(&self, _: &Self) -> bool {
+        unreachable!("windows are an input")
+    }
+    fn shown(&self) -> String {
+        format!("gates {}, outputs {}", self.gate.shown(), self.op.shown())
+    }
+    fn smaller(&self) -> Vec<Self> {
+        halves(self.gate.len()).map(|half| self.part(half)).collect()
+    }
+}
+
+/// The first and the last half of n, where n is not 0.
+fn halves(n: usize) -> impl Iterator<Item = Range<usize>> {
+    [0..n / 2, n - n / 2..n].into_iter().filter(move |_| n > 0)
+}
+
+/// Gates to take a quantile of, at least one.
+struct Gates(Vec<f32>);
+
+impl Value for Gates {
+    fn same(&self, _: &Self) -> bool {
+        unreachable!("gates are an input")
+    }
+    fn shown(&self) -> String {
+        self.0.shown()
+    }
+    fn smaller(&self) -> Vec<Self> {
+        self.0.smaller().into_iter().filter(|half| !half.is_empty()).map(Gates).collect()
+    }
+}
 
 /// Most windows of a pass.
 const MOST: usize = 33_754;
@@ -48,17 +90,17 @@ fn our_quantile(values: &[f32]) -> f32 {
     unsafe { vuzgari_compare_quantile(values.as_ptr(), values.len()) }
 }
 
-fn our_mean_quiet((gate, op): &Windows, quiet: f32) -> f64 {
+fn our_mean_quiet(Windows { gate, op }: &Windows, quiet: f32) -> f64 {
     unsafe { vuzgari_compare_mean_quiet(op.as_ptr(), op.len(), gate.as_ptr(), gate.len(), quiet) }
 }
 
-fn our_admitted((gate, op): &Windows, gate_var: f64, op_var: f64) -> (usize, f64) {
+fn our_admitted(Windows { gate, op }: &Windows, gate_var: f64, op_var: f64) -> (usize, f64) {
     let (g, o, n) = (gate.as_ptr(), op.as_ptr(), gate.len());
     unsafe { (vuzgari_compare_admitted_count(g, n, o, n, gate_var, op_var), vuzgari_compare_admitted_sum(g, n, o, n, gate_var, op_var)) }
 }
 
 /// Count (0 for none), variance (NaN for none) and rounds.
-fn our_variance((gate, op): &Windows, image_var: f64) -> (usize, f64, usize) {
+fn our_variance(Windows { gate, op }: &Windows, image_var: f64) -> (usize, f64, usize) {
     let (g, o, n) = (gate.as_ptr(), op.as_ptr(), gate.len());
     unsafe {
         (
@@ -69,7 +111,7 @@ fn our_variance((gate, op): &Windows, image_var: f64) -> (usize, f64, usize) {
     }
 }
 
-fn their_variance((gate, op): &Windows, image_var: f64) -> (usize, f64, usize) {
+fn their_variance(Windows { gate, op }: &Windows, image_var: f64) -> (usize, f64, usize) {
     let band = counted::Band { gate, op };
     let (found, counts) = counts::counted(|| band.variance(image_var));
     let (n, var) = found.unwrap_or((0, f64::NAN));
@@ -85,36 +127,46 @@ struct Sample {
 
 impl Sample {
     fn new(bands: &[Windows; 4]) -> Self {
-        let mut windows: Windows = (vec![], vec![]);
+        let mut windows = Windows::default();
         let mut ends = [0; 4];
-        for (end, (gate, op)) in ends.iter_mut().zip(bands) {
-            windows.0.extend(gate);
-            windows.1.extend(op);
-            *end = windows.0.len();
+        for (end, Windows { gate, op }) in ends.iter_mut().zip(bands) {
+            windows.gate.extend(gate);
+            windows.op.extend(op);
+            *end = windows.gate.len();
         }
         let [e1, e2, e3, _] = ends;
         Sample { windows, ends: [e1, e2, e3] }
     }
 
+    fn bands(&self) -> [Windows; 4] {
+        let [e1, e2, e3] = self.ends;
+        [0..e1, e1..e2, e2..e3, e3..self.windows.gate.len()].map(|band| self.windows.part(band))
+    }
+
     fn original(&self) -> counted::Sample {
-        let (gate, op) = &self.windows;
+        let Windows { gate, op } = &self.windows;
         let buf = [&gate[..], &[0.0], op, &[0.0]].concat();
         let [e1, e2, e3] = self.ends;
         counted::Sample { buf, kept: gate.len(), start: [0, e1, e2, e3, gate.len()] }
     }
 
     fn ours<R>(&self, call: unsafe extern "C" fn(Part, usize, Part, usize, usize, usize, usize) -> R) -> R {
-        let ((gate, op), [e1, e2, e3]) = (&self.windows, self.ends);
+        let (Windows { gate, op }, [e1, e2, e3]) = (&self.windows, self.ends);
         unsafe { call(gate.as_ptr(), gate.len(), op.as_ptr(), op.len(), e1, e2, e3) }
     }
 }
 
-impl super::Value for Sample {
+impl Value for Sample {
     fn same(&self, _: &Self) -> bool {
         unreachable!("a sample is an input")
     }
     fn shown(&self) -> String {
-        (self.windows.0.clone(), self.windows.1.clone(), self.ends.to_vec()).shown()
+        format!("{}, ends {}", self.windows.shown(), self.ends.shown())
+    }
+    /// With half of a band, and at least one window.
+    fn smaller(&self) -> Vec<Self> {
+        let samples = self.bands().smaller().into_iter().map(|bands| Sample::new(&bands));
+        samples.filter(|sample| !sample.windows.gate.is_empty()).collect()
     }
 }
 
@@ -164,7 +216,7 @@ fn windows(random: &mut Random, n: usize, var: f64) -> Windows {
     let (level, share, few) = (1 + random.below(2_000), random.below(40), 1 + random.below(30));
     let (rise, more) = (1.0 + random.below(400) as f64 / 1000.0, 1.001 + random.below(300) as f64 / 1000.0);
     let (height, ratio) = (1.0 + random.below(2_000) as f64, 1.0 + random.below(30) as f64);
-    (0..n)
+    let (gate, op) = (0..n)
         .map(|_| match kind {
             0..=2 => {
                 let out = normal(random) * (level as f64).sqrt() * 20.0;
@@ -183,7 +235,8 @@ fn windows(random: &mut Random, n: usize, var: f64) -> Windows {
                 ((at * ratio).round() as f32, at.round() as f32)
             }
         })
-        .unzip()
+        .unzip();
+    Windows { gate, op }
 }
 
 /// Standard normal, near enough.
@@ -206,53 +259,53 @@ fn finite(random: &mut Random) -> f32 {
 fn quantile(run: &mut Run) {
     let mut random = run.random("quantile");
     let seeded: Vec<usize> = (0..run.size(GATE)).map(|_| 1 + length(&mut random)).collect();
-    let inputs = lengths().filter(|&n| n > 0).chain(seeded).map(|n| {
+    let inputs = run.slice(lengths()).filter(|&n| n > 0).chain(seeded).map(|n| {
         let any = random.below(4) == 0;
-        let (gates, _) = windows(&mut random, n, 100.0);
-        gates.into_iter().map(|g| if any { loop { let x = random.f32(); if !x.is_nan() { break x } } } else { g }).collect::<Vec<f32>>()
+        let gates = windows(&mut random, n, 100.0).gate;
+        Gates(gates.into_iter().map(|g| if any { loop { let x = random.f32(); if !x.is_nan() { break x } } } else { g }).collect())
     });
-    run.same("quantile", inputs, |v| our_quantile(v), |v| noise::quantile(v, 1.0 / 16.0));
+    run.same("quantile", inputs, |Gates(v)| our_quantile(v), |Gates(v)| noise::quantile(v, 1.0 / 16.0));
 }
 
 fn mean_quiet(run: &mut Run) {
     let mut random = run.random("mean_quiet");
     let seeded: Vec<usize> = (0..run.size(GATE)).map(|_| length(&mut random)).collect();
-    let inputs = lengths().step_by(3).chain(seeded).map(|n| {
+    let inputs = run.slice(lengths().step_by(3)).chain(seeded).map(|n| {
         let windows = windows(&mut random, n, 100.0);
-        let quiet = if n == 0 || random.below(8) == 0 { random.below(1 << 20) as f32 } else { random.pick(&windows.0) };
-        (windows.0, windows.1, quiet)
+        let quiet = if n == 0 || random.below(8) == 0 { random.below(1 << 20) as f32 } else { random.pick(&windows.gate) };
+        (windows, quiet)
     });
     run.same(
         "mean_quiet",
         inputs,
-        |(gate, op, quiet)| our_mean_quiet(&(gate.clone(), op.clone()), *quiet),
-        |(gate, op, quiet)| noise::mean_quiet(op, gate, *quiet),
+        |(windows, quiet)| our_mean_quiet(windows, *quiet),
+        |(Windows { gate, op }, quiet)| noise::mean_quiet(op, gate, *quiet),
     );
 }
 
 fn admitted(run: &mut Run) {
     let mut random = run.random("admitted");
     let seeded: Vec<usize> = (0..run.size(GATE)).map(|_| length(&mut random)).collect();
-    let inputs = lengths().chain(seeded).map(|n| {
+    let inputs = run.slice(lengths()).chain(seeded).map(|n| {
         let (gate_var, op_var) = (variance_of(&mut random), variance_of(&mut random));
-        let (mut gate, mut op) = windows(&mut random, n, gate_var);
+        let Windows { mut gate, mut op } = windows(&mut random, n, gate_var);
         if random.below(4) == 0 {
             // on both thresholds
-            (gate, op) = (windows(&mut random, n, gate_var).0, windows(&mut random, n, op_var).1);
+            (gate, op) = (windows(&mut random, n, gate_var).gate, windows(&mut random, n, op_var).op);
             for k in 0..n {
                 if random.below(2) == 0 {
                     (gate[k], op[k]) = (near(&mut random, thresholds(gate_var).0), near(&mut random, thresholds(op_var).1));
                 }
             }
         }
-        (gate, op, gate_var, op_var)
+        (Windows { gate, op }, gate_var, op_var)
     });
     let mut none = 0;
     run.same(
         "admitted",
         inputs,
-        |(gate, op, gate_var, op_var)| our_admitted(&(gate.clone(), op.clone()), *gate_var, *op_var),
-        |(gate, op, gate_var, op_var)| {
+        |(windows, gate_var, op_var)| our_admitted(windows, *gate_var, *op_var),
+        |(Windows { gate, op }, gate_var, op_var)| {
             let answer = noise::Band { gate, op }.admitted(*gate_var, *op_var);
             none += u64::from(answer.0 == 0 && !gate.is_empty());
             answer
@@ -264,19 +317,18 @@ fn admitted(run: &mut Run) {
 fn variance(run: &mut Run) {
     let mut random = run.random("variance");
     let seeded: Vec<usize> = (0..run.size(GATE)).map(|_| length(&mut random)).collect();
-    let inputs = lengths().step_by(2).chain(seeded).map(|n| {
+    let inputs = run.slice(lengths().step_by(2)).chain(seeded).map(|n| {
         let image_var = variance_of(&mut random);
         let at = if random.below(2) == 0 { image_var } else { 100.0 };
-        let windows = windows(&mut random, n, at);
-        (windows.0, windows.1, image_var)
+        (windows(&mut random, n, at), image_var)
     });
     let mut kinds = [0; 4];
     run.same(
         "variance",
         inputs,
-        |(gate, op, image_var)| our_variance(&(gate.clone(), op.clone()), *image_var),
-        |(gate, op, image_var)| {
-            let answer = their_variance(&(gate.clone(), op.clone()), *image_var);
+        |(windows, image_var)| our_variance(windows, *image_var),
+        |(windows, image_var)| {
+            let answer = their_variance(windows, *image_var);
             kinds[0] += u64::from(answer.0 > 0);
             kinds[1] += u64::from(answer.2 == 12);
             kinds[2] += u64::from(answer.2 == 0);
@@ -325,7 +377,7 @@ fn sample(random: &mut Random) -> Sample {
                 if some >> k & 1 == 1 {
                     let level = if k as u64 == outlier { base * far } else { base };
                     let n = if kind == 5 { 128 } else { 100 + random.below(500) as usize };
-                    *band = (vec![0.0; n], vec![near(random, level); n]);
+                    *band = Windows { gate: vec![0.0; n], op: vec![near(random, level); n] };
                 }
             }
         }
@@ -335,7 +387,7 @@ fn sample(random: &mut Random) -> Sample {
 
 fn image_variance(run: &mut Run) {
     let mut random = run.random("image_variance");
-    let samples: Vec<Sample> = (0..run.size(GATE)).map(|_| sample(&mut random)).filter(|s| !s.windows.0.is_empty()).collect();
+    let samples: Vec<Sample> = (0..run.size(GATE)).map(|_| sample(&mut random)).filter(|s| !s.windows.gate.is_empty()).collect();
     let mut twelve = 0;
     run.same(
         "image_variance",
@@ -371,45 +423,26 @@ fn noise_sigma(run: &mut Run) {
     }
 }
 
-/// Microseconds a call on the windows of a pass, ours and the original's in turns; the medians.
+/// The windows of a pass.
 fn speed() {
     let mut random = Random::new(1);
     let bands: [Windows; 4] = std::array::from_fn(|_| loop {
         let windows = windows(&mut random, 2_048, 100.0);
-        if windows.0.iter().any(|&g| g != windows.0[0]) {
+        if windows.gate.iter().any(|&g| g != windows.gate[0]) {
             break windows;
         }
     });
     let sample = Sample::new(&bands);
     let counted::Sample { buf, kept, start } = sample.original();
     let original = noise::Sample { buf, kept, start };
-    let (gate, op) = &sample.windows;
-    beside("quantile", || our_quantile(gate) as f64, || noise::quantile(gate, 1.0 / 16.0) as f64);
-    beside("mean_quiet", || our_mean_quiet(&sample.windows, 1e5), || noise::mean_quiet(op, gate, 1e5));
-    beside(
+    let Windows { gate, op } = &sample.windows;
+    let line = |what: &str, ours: &dyn Fn() -> f64, theirs: &dyn Fn() -> f64| beside(what, None, &[()], |_| ours(), |_| theirs());
+    line("quantile", &|| our_quantile(gate).into(), &|| noise::quantile(gate, 1.0 / 16.0).into());
+    line("mean_quiet", &|| our_mean_quiet(&sample.windows, 1e5), &|| noise::mean_quiet(op, gate, 1e5));
+    line(
         "admitted",
-        || unsafe { vuzgari_compare_admitted_sum(gate.as_ptr(), gate.len(), op.as_ptr(), op.len(), 4e4, 4e4) },
-        || noise::Band { gate, op }.admitted(4e4, 4e4).1,
+        &|| unsafe { vuzgari_compare_admitted_sum(gate.as_ptr(), gate.len(), op.as_ptr(), op.len(), 4e4, 4e4) },
+        &|| noise::Band { gate, op }.admitted(4e4, 4e4).1,
     );
-    beside("noise_sigma", || sample.ours(vuzgari_compare_noise_sigma) as f64, || noise::noise_sigma(&original).unwrap_or(0.0) as f64);
-}
-
-fn beside(what: &str, ours: impl Fn() -> f64, theirs: impl Fn() -> f64) {
-    let time = |call: &dyn Fn() -> f64| {
-        let began = Instant::now();
-        for _ in 0..20 {
-            black_box(call());
-        }
-        began.elapsed().as_secs_f64() * 1e6 / 20.0
-    };
-    let mut times = [vec![], vec![]];
-    for _ in 0..101 {
-        times[0].push(time(&ours));
-        times[1].push(time(&theirs));
-    }
-    let [ours, theirs] = times.map(|mut turns| {
-        turns.sort_by(f64::total_cmp);
-        turns[turns.len() / 2]
-    });
-    println!("{what}: {ours:.1} µs a call, the original's {theirs:.1}");
+    line("noise_sigma", &|| sample.ours(vuzgari_compare_noise_sigma).into(), &|| noise::noise_sigma(&original).unwrap_or(0.0).into());
 }

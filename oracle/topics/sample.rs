@@ -37,7 +37,7 @@ fn compare(run: &mut Run) {
         hard += pass.3.iter().filter(|&&gate| gate >= 1 << 26 && gate % 16 == 12).count() as u64;
         pass
     };
-    run.same("collect", corners().chain(seeded), ours, theirs);
+    run.same("collect", run.once(corners()).chain(seeded), ours, theirs);
     run.count("windows", windows);
     run.count("gates from 2^26 on that are 12 mod 16", hard);
 }
@@ -76,7 +76,7 @@ impl Lid {
     fn pixels(&self) -> Vec<u8> {
         let &Image { w, h, kind, mut seed } = &self.image;
         if kind < KINDS {
-            return self.image.pixels();
+            return self.image.pixels().to_vec();
         }
         let mut pixels = Vec::with_capacity(w * h);
         for y in 0..h {
@@ -103,8 +103,7 @@ impl Value for Lid {
         format!("{}, W {}", self.image.shown(), self.windows)
     }
     fn smaller(&self) -> Vec<Self> {
-        let images = self.image.smaller().into_iter().filter(|image| image.w >= 4 && image.h >= 4);
-        images.map(|image| Lid { image, ..*self }).collect()
+        self.image.smaller().into_iter().map(|image| Lid { image, ..*self }).collect()
     }
 }
 
@@ -166,7 +165,7 @@ fn speed() {
                     counts[0]
                 };
                 let what = format!("collect {w} by {h}, {name}, W {windows}");
-                beside(&what, &[(); 1], ours, |_| noise::Sample::collect(&img, w, h, windows).0.start[1]);
+                beside(&what, None, &[()], ours, |_| noise::Sample::collect(&img, w, h, windows).0.start[1]);
             }
         }
     }
