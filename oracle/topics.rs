@@ -9,6 +9,7 @@ mod grid;
 mod gradients;
 mod known;
 mod lids;
+mod misfit;
 mod model;
 mod noise;
 mod patterns;
@@ -23,6 +24,7 @@ pub const ALL: &[Topic] = &[
     known::TOPIC,
     floats::TOPIC,
     window::TOPIC,
+    misfit::TOPIC,
     grid::TOPIC,
     sample::TOPIC,
     rounds::TOPIC,

@@ -39,7 +39,7 @@ macro_rules! plain {
         }
     )*};
 }
-plain!(bool, u8, u32, i32, u64, i64, usize, String);
+plain!(bool, u8, u32, i32, u64, i64, i128, usize, String);
 
 macro_rules! tuples {
     ($(($($name:ident $at:tt),*))*) => {$(

@@ -160,6 +160,26 @@ fn of(c: [f32; 3]) -> PositionCovariance {
 /// Knots, the noise part, an offset, a width and a grid.
 type Estimate = (Knots, [f32; 3], [f32; 2], Option<f32>, f32);
 
+/// Knots and a width.
+type Place = (Knots, Option<f32>);
+
+fn ours_at((knots, width): &Place) -> (u32, [f32; 2]) {
+    let mut out = [f32::NAN; 2];
+    let (w, known) = (width.unwrap_or(1.5), width.is_some());
+    let number = vuzgari_compare_at(&knots.widths, &knots.gains, &knots.residuals, knots.count, knots.floor, known, w, &mut out);
+    (number, out)
+}
+
+fn their_at((knots, width): &Place) -> (u32, [f32; 2]) {
+    match knots.refusal() {
+        0 => {
+            let (gain, residual) = knots.original(|model| model.at(*width));
+            (0, [gain, residual])
+        }
+        number => (number, [0.0; 2]),
+    }
+}
+
 fn ours_model((knots, noise, offset, width, grid): &Estimate) -> (u32, [f32; 8]) {
     let mut out = [f32::NAN; 8];
     let w = width.unwrap_or(f32::from_bits(0x7fc0_1234));
@@ -218,25 +238,17 @@ fn compare(run: &mut Run) {
         let width = knots.width(&mut random);
         (knots, width)
     });
-    run.same(
-        "at",
-        places.take(run.size(500_000) as usize),
-        |(knots, width)| {
-            let mut out = [f32::NAN; 2];
-            let (w, known) = (width.unwrap_or(1.5), width.is_some());
-            let number = vuzgari_compare_at(&knots.widths, &knots.gains, &knots.residuals, knots.count, knots.floor, known, w, &mut out);
-            (number, out)
-        },
-        |(knots, width)| {
-            let number = knots.refusal();
-            met("at", number);
-            if number != 0 {
-                return (number, [0.0; 2]);
-            }
-            let (gain, residual) = knots.original(|model| model.at(*width));
-            (0, [gain, residual])
-        },
-    );
+    run.same("at", places.take(run.size(500_000) as usize), ours_at, |place| {
+        let answer = their_at(place);
+        met("at", answer.0);
+        answer
+    });
+    // Document 01's reading, of both.
+    let (mut widths, mut gains, mut residuals) = ([0.0; 16], [0.0; 16], [0.0; 16]);
+    [widths[0], gains[0], residuals[0]] = [1.0, 0.5, 0.0];
+    [widths[1], gains[1], residuals[1]] = [2.0, 0.25, 1.0];
+    let worked = (Knots { widths, gains, residuals, count: 2, floor: 0.0 }, Some(1.5));
+    run.same("worked knots", run.once(0..2), |&k| [ours_at, their_at][k](&worked), |_| (0, [0.375, 0.5]));
 
     let mut random = run.random("model");
     let estimates = repeat_with(|| {
