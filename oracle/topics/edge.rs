@@ -210,10 +210,11 @@ fn painted(random: &mut Random, sides: [usize; 2]) -> Call {
     Call { pixels: Rc::new(pixels), sides, origin: [0, 0], centre: [0, 0] }
 }
 
-/// Inside an image and at its border: the tile loaded and its width taken.
+/// Inside an image of squares with noise, and at its border: the tile loaded and its width taken.
 fn speed() {
     let mut random = Random::new(1);
-    let call = painted(&mut random, [64, 64]);
+    let pixels = (0..64 * 64).map(|k| [60, 180][(k % 64 / 8 + k / 64 / 8) % 2] + random.below(9) as u8).collect();
+    let call = Call { pixels: Rc::new(pixels), sides: [64, 64], origin: [0, 0], centre: [0, 0] };
     let inside = spread(call.clone(), &mut random, |random| [8 + random.below(48) as i32, 8 + random.below(48) as i32]);
     let border = spread(call, &mut random, |random| [random.pick(&[-3, 2, 61, 66]), random.below(64) as i32]);
     for (what, calls) in [("inside", inside), ("border", border)] {

@@ -276,15 +276,16 @@ fn compare(run: &mut Run) {
     }
 }
 
+/// Ours through exports that copy the whole state in, and `add` and `reset` out again: side 0 is what that costs `covariance`.
 fn speed() {
     let mut random = Random::new(1);
-    for side in [11usize, 32] {
+    for (side, mark) in [(0, None), (11, Some(2.0)), (32, Some(2.0))] {
         let state = State { origin: [0; 2], side, gx: std::array::from_fn(|_| plain(&mut random)), gy: std::array::from_fn(|_| plain(&mut random)) };
         let original = state.original();
         let states = [(state, original)];
         beside(
             &format!("covariance, side {side}"),
-            Some(2.0),
+            mark,
             &states,
             |(state, _)| state.covariance().0,
             |(_, original)| u32::from(original.covariance().is_none()),

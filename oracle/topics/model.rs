@@ -308,8 +308,16 @@ fn speed() {
             model.model(of(*noise), *offset, *width, *grid).systematic.xx
         })
     });
-    let levels: Vec<Level> = (0..4096).map(|_| ([1.0, 0.5, 1.0], [1.0; 3], [0.0, 0.5], random.below(100) as f32 / 10.0)).collect();
-    let levels: Vec<(Level, CovarianceModel)> = levels.into_iter().map(|level| (level, level_model(&level))).collect();
-    beside("noise_at", Some(2.0), &levels, |(level, _)| at_level(vuzgari_compare_noise_at)(level).1, |(level, model)| floats(model.noise_at(level.3)));
-    beside("total", Some(2.0), &levels, |(level, _)| at_level(vuzgari_compare_total)(level).1, |(level, model)| floats(model.total(level.3)));
+    for growth in [0.0, 0.5] {
+        let level = |sigma| ([1.0, 0.5, 1.0], [1.0; 3], [growth; 2], sigma);
+        let levels: Vec<(Level, CovarianceModel)> =
+            (0..4096).map(|_| level(random.below(100) as f32 / 10.0)).map(|level| (level, level_model(&level))).collect();
+        let line = |what, ours, figure: fn(&CovarianceModel, f32) -> PositionCovariance| {
+            let ours = at_level(ours);
+            let theirs = |(level, model): &(Level, _)| floats(figure(model, level.3));
+            beside(&format!("{what}, growth {growth}"), Some(2.0), &levels, |(level, _)| ours(level).1, theirs);
+        };
+        line("noise_at", vuzgari_compare_noise_at, CovarianceModel::noise_at);
+        line("total", vuzgari_compare_total, CovarianceModel::total);
+    }
 }

@@ -375,10 +375,11 @@ fn large(run: &mut Run) {
 fn speed() {
     let mut random = Random::new(1);
     for (w, h) in [(26, 26), (640, 480), (1_920, 1_080), (4_096, 3_072), (16_384, 16_384)] {
-        for what in ["noisy flat", "stripes", "checkerboard"] {
+        for what in ["noisy flat", "stripes", "checkerboard", "lattice"] {
             let pixel = |k: usize| match what {
                 "noisy flat" => 124 + random.below(9) as u8,
                 "stripes" => stripes(k % w),
+                "lattice" => 124 + ((k as u32).wrapping_mul(2_654_435_761) >> 16) as u8 % 9,
                 _ => [0, 255][(k % w + k / w) % 2],
             };
             let pixels: Vec<u8> = (0..w * h).map(pixel).collect();
