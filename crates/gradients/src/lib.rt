@@ -168,7 +168,7 @@ fn total(a: &[f32], b: &[f32]) -> f32
 {
     let p = partials(a, b);
     let p0 = with_rest(a, b, p.p0);
-    float::to_f32((p0 + p.p1) + (p.p2 + p.p3))
+    convert::to_f32((p0 + p.p1) + (p.p2 + p.p3))
 }
 
 // Four partial sums, so that the additions don't wait on one chain.

@@ -54,7 +54,7 @@ fn measure_row(
 {
     let mut k = 0;
     while k < n {
-        let f = window::window(img, w, y * w + (x + k * s));
+        let f = window_stats::window(img, w, y * w + (x + k * s));
         put(ints, t, to + k, f);
         k += 1;
     }
