@@ -9,9 +9,9 @@ ghost use Rattle.compare.specs.Models.{table, wide, whole, gained, Told}
 use crate::covariances::covariance_of;
 use crate::covariances::told;
 use covariance::CovarianceModel;
+use knots::Width;
 use model::Modelled;
 use model::SystematicModel;
-use knots::Width;
 
 fn width_of(known: bool, w: f32) -> Width
     ensures { λ r. ⌜ r ≡ wide known w ⌝ }

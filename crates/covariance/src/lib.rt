@@ -48,7 +48,10 @@ impl CovarianceModel {
         let growth = self.growth;
         let noise = self.noise;
         let systematic = self.systematic;
-        ranges::all_within(noise) & systematic.is_finite() & ranges::both_within(growth) & ranges::is_level(sigma)
+        ranges::all_within(noise)
+            & systematic.is_finite()
+            & ranges::both_within(growth)
+            & ranges::is_level(sigma)
     }
 
     // The noise term alone at `sigma`.

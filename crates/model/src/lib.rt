@@ -126,7 +126,9 @@ impl SystematicModel {
         if at.number != 0 {
             return refused(at.number);
         }
-        if !(ranges::all_within(noise) & ranges::both_within(offset) & ranges::up_to_thousand(grid)) {
+        if !(ranges::all_within(noise)
+            & ranges::both_within(offset)
+            & ranges::up_to_thousand(grid)) {
             return refused(12);
         }
         let systematic = systematic_of(at.gain, at.residual, self.floor, offset, grid);

@@ -7,7 +7,7 @@ use Rattle.knots.specs.Places.{place, column}
 use Rattle.model.specs.Knots.{knotsNumber, atOf}
 use Rattle.ieee.specs.Convert.{convert}
 use Rattle.window.specs.Window.{statsOf, gate}
-use Rattle.sample.specs.Bands.{bandOf}
+use Rattle.band.specs.Bands.{bandOf}
 use Rattle.grid.specs.Step.{stepOf}
 use Rattle.readings.specs.Listing.{listing, AllHold}
 

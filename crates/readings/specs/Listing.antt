@@ -13,7 +13,7 @@ use Rattle.model.specs.Knots.{atOf}
 use Rattle.model.proofs.Laws.{table}
 use Rattle.window.specs.Readings.{windowReadings, Reads}
 use Rattle.window.specs.Readings as Window
-use Rattle.sample.specs.Bands.{bandOf}
+use Rattle.band.specs.Bands.{bandOf}
 use Rattle.sample.proofs.Known.{BandRow, bands}
 use Rattle.grid.specs.Step.{stepOf}
 use Rattle.grid.specs.Grid.{firstX}
