@@ -6,10 +6,10 @@ use mathlib.Core.List.{List, [], _∷_, _++_}
 use lib.ListN.{getD}
 use lib.Ieee.{Float, nan}
 use Rattle.model.specs.declared.SystematicModel.{SystematicModel}
-use Rattle.model.specs.declared.CovarianceModel.{CovarianceModel}
+use Rattle.covariance.specs.declared.CovarianceModel.{CovarianceModel}
 use Rattle.model.specs.declared.At.{At}
-use Rattle.model.specs.declared.Width.{Width}
-use Rattle.model.specs.declared.Width.the-variants.{Known, Unknown}
+use Rattle.knots.specs.declared.Width.{Width}
+use Rattle.knots.specs.declared.Width.the-variants.{Known, Unknown}
 use Rattle.model.specs.declared.Modelled.{Modelled}
 use Rattle.compare.specs.Lent.{three, entries}
 

@@ -1,17 +1,17 @@
 // The covariance model. Knots, covariances, offsets and growths are lent by their floats; the figures go to `out`.
 ghost use mathlib.Core.Path.{_≡_};
 ghost use Rattle.model.specs.Knots.{atOf};
-ghost use Rattle.model.specs.Noise.{noiseAt, total};
+ghost use Rattle.covariance.specs.Noise.{noiseAt, total};
 ghost use Rattle.model.specs.Model.{modelOf};
 ghost use Rattle.refine.specs.Covariance.{number, figures};
 ghost use Rattle.compare.specs.Lent.{three, entries};
 ghost use Rattle.compare.specs.Models.{table, wide, whole, gained, Told};
 use crate::covariances::covariance_of;
 use crate::covariances::told;
-use model::CovarianceModel;
+use covariance::CovarianceModel;
+use knots::Width;
 use model::Modelled;
 use model::SystematicModel;
-use model::Width;
 
 fn width_of(known: bool, w: f32) -> Width
     ensures { λ r. ⌜ r ≡ wide known w ⌝ }

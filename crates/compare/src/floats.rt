@@ -10,28 +10,28 @@ ghost use Rattle.ieee.specs.Sqrt.{sqrt};
 pub extern "C" fn vuzgari_compare_sqrt32(x: f32) -> f32
     ensures { λ r. ⌜ r ≡ sqrt binary32 x ⌝ }
 {
-    float::sqrt32(x)
+    roots::sqrt32(x)
 }
 
 #[no_mangle]
 pub extern "C" fn vuzgari_compare_sqrt64(x: f64) -> f64
     ensures { λ r. ⌜ r ≡ sqrt binary64 x ⌝ }
 {
-    float::sqrt64(x)
+    roots::sqrt64(x)
 }
 
 #[no_mangle]
 pub extern "C" fn vuzgari_compare_to_f32(x: f64) -> f32
     ensures { λ r. ⌜ r ≡ convert binary32 x ⌝ }
 {
-    float::to_f32(x)
+    convert::to_f32(x)
 }
 
 #[no_mangle]
 pub extern "C" fn vuzgari_compare_floor32(x: f32) -> f32
     ensures { λ r. ⌜ r ≡ floor binary32 x ⌝ }
 {
-    float::floor32(x)
+    convert::floor32(x)
 }
 
 #[no_mangle]

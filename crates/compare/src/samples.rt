@@ -2,9 +2,9 @@
 ghost use mathlib.Core.Path.{_≡_};
 ghost use Prim.Native.Nat.{_≤_};
 ghost use lib.ListN.{length};
-ghost use Rattle.sample.specs.Figures.{figuresOf};
-ghost use Rattle.sample.specs.Columns.{columnsIn};
-ghost use Rattle.sample.specs.Bands.{sampleOf};
+ghost use Rattle.measure.specs.Figures.{figuresOf};
+ghost use Rattle.measure.specs.Columns.{columnsIn};
+ghost use Rattle.band.specs.Bands.{sampleOf};
 ghost use Rattle.sample.specs.Laid.{laidIn, Collectable};
 ghost use Rattle.compare.specs.Counts.{countsIn};
 

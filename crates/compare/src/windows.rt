@@ -9,7 +9,7 @@ pub extern "C" fn vuzgari_compare_window_sum(img: &[u8], w: usize, at: usize) ->
     requires { ⌜ at + 3 * w + 4 ≤ length (now img) ⌝ }
     ensures { λ r. ⌜ r ≡ statsOf (pixelsAt (now (img .entry)) w at) .sum ⌝ }
 {
-    let s = window::window(img, w, at);
+    let s = window_stats::window(img, w, at);
     s.sum
 }
 
@@ -18,7 +18,7 @@ pub extern "C" fn vuzgari_compare_window_gate(img: &[u8], w: usize, at: usize) -
     requires { ⌜ at + 3 * w + 4 ≤ length (now img) ⌝ }
     ensures { λ r. ⌜ r ≡ statsOf (pixelsAt (now (img .entry)) w at) .gate ⌝ }
 {
-    let s = window::window(img, w, at);
+    let s = window_stats::window(img, w, at);
     s.gate
 }
 
@@ -27,6 +27,6 @@ pub extern "C" fn vuzgari_compare_window_op(img: &[u8], w: usize, at: usize) -> 
     requires { ⌜ at + 3 * w + 4 ≤ length (now img) ⌝ }
     ensures { λ r. ⌜ r ≡ statsOf (pixelsAt (now (img .entry)) w at) .op ⌝ }
 {
-    let s = window::window(img, w, at);
+    let s = window_stats::window(img, w, at);
     s.op
 }

@@ -1,6 +1,3 @@
--- Laws on supports, on refusals and on sums of products.
-pub mod Places
+-- Laws on refusals and on what a call changes.
 pub mod Refusals
-pub mod Sums
 pub mod Laws
-pub mod Examples

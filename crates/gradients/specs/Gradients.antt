@@ -13,8 +13,8 @@ use Rattle.refine.specs.declared.Judged.{Judged}
 use Rattle.refine.specs.declared.Judged.the-variants.{Covariance, Refused}
 use Rattle.gradients.specs.declared.PixelGradients.{PixelGradients}
 use Rattle.gradients.specs.declared.Handed.{Handed}
-use Rattle.gradients.specs.Ranges.{stateNumber, offset}
-use Rattle.gradients.specs.Gram.{plusZero, gram}
+use Rattle.support.specs.Ranges.{stateNumber, offset}
+use Rattle.gram.specs.Gram.{plusZero, gram}
 
 -- every cell zero, those past the side too
 abbrev pub cleared : List ℤ → ℕ → PixelGradients

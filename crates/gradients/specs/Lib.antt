@@ -1,3 +1,1 @@
-pub mod Ranges
-pub mod Gram
 pub mod Gradients

@@ -224,5 +224,5 @@ fn decide(k: Total) -> Sigma
 fn deviation(k: Total) -> f32
     ensures { λ r. ⌜ r ≡ Joining.deviation k ⌝ }
 {
-    float::to_f32(float::sqrt64(k.sum / sums::whole(k.n)) / OPERATOR_GAIN)
+    convert::to_f32(roots::sqrt64(k.sum / sums::whole(k.n)) / OPERATOR_GAIN)
 }

@@ -144,7 +144,7 @@ fn add_roots(top: &[f32; 8]) -> f32
     let mut sum = 0.0f32;
     let mut k = 0;
     while k < 8 {
-        sum = sum + float::sqrt32(top[k]);
+        sum = sum + roots::sqrt32(top[k]);
         k += 1;
     }
     sum

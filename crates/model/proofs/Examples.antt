@@ -2,21 +2,19 @@
 use mathlib.Core.Path.{_≡_, refl}
 use mathlib.Core.Bool.{true, false}
 use mathlib.Core.List.{List, [], _∷_}
-use Prim.Native.Nat.{ℕ}
 use lib.Ieee
-use lib.Ieee.{Float, nan, inf, binary32, ofBits}
+use lib.Ieee.{Float, nan, inf, ofBits}
 use Rattle.ieee.specs.Order.{finite}
 use Rattle.refine.specs.Covariance.{covariance}
-use Rattle.model.specs.declared.Width.the-variants.{Known, Unknown}
-use Rattle.model.specs.Arith.{plusZero, one}
-use Rattle.model.specs.Ranges.{within, upTo}
-use Rattle.model.specs.Knots.{knotsNumber, place, column, atOf}
+use Rattle.ranges.specs.Arith.{plusZero, one}
+use Rattle.ranges.specs.Ranges.{within, upTo}
+use Rattle.ranges.proofs.Examples.{float}
+use Rattle.knots.specs.declared.Width.the-variants.{Known, Unknown}
+use Rattle.knots.specs.Places.{place, column}
+use Rattle.model.specs.Knots.{knotsNumber, atOf}
 use Rattle.model.specs.Systematic.{systematic, shrunk, about}
 use Rattle.model.specs.Model.{modelNumber}
 use Rattle.model.proofs.Laws.{table}
-
-abbrev pub float : ℕ → Float
-float n = ofBits binary32 n
 
 -- knots (1, 0.5, 0) and (2, 0.25, 1), whatever stands past them: width 1.5 gives 0.375 and 0.5
 pub knots-row : (l g r : List Float)
@@ -31,24 +29,6 @@ pub inner-knot : (l g r : List Float)
     ≡ record { number = 0; gain = float 0x3cf5_c28e; residual = plusZero }
 unfolding atOf knotsNumber place column within upTo finite ofBits Ieee.lt Ieee.le Ieee.eq Ieee.add Ieee.sub Ieee.mul Ieee.div
 inner-knot l g r = refl
-
--- ---- ranges: the limits are in them, the next floats are not, and minus zero is 0
-
-pub limit-in : within 1000 (float 0x447a_0000) ≡ true
-unfolding within ofBits
-limit-in = refl
-
-pub next-out : within 1000 (float 0x447a_0001) ≡ false
-unfolding within ofBits
-next-out = refl
-
-pub minus-zero-in : upTo 1000 (float 0x8000_0000) ≡ true
-unfolding upTo ofBits
-minus-zero-in = refl
-
-pub below-zero-out : upTo 1000 (float 0x8000_0001) ≡ false
-unfolding upTo ofBits
-below-zero-out = refl
 
 -- ---- refusals of knots
 

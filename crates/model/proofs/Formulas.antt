@@ -5,10 +5,8 @@ use mathlib.Core.List.{List}
 use lib.Ieee.{Float, le}
 use Rattle.laws.proofs.Choice.{chosen, passed}
 use Rattle.refine.specs.declared.PositionCovariance.{PositionCovariance}
-use Rattle.model.specs.declared.CovarianceModel.{CovarianceModel}
-use Rattle.model.specs.Arith.{_⊕_, _⊗_, _⊘_, at, plusZero}
+use Rattle.ranges.specs.Arith.{_⊕_, _⊗_, _⊘_, at, plusZero}
 use Rattle.model.specs.Systematic.{uniformVariance, about, error, shrunk, systematic}
-use Rattle.model.specs.Noise.{variance, grown, scaled, noise}
 
 module _ (g rho floor : Float) (u : List Float) (grid : Float) where
   from-prior : {p : Float} → p ≡ uniformVariance grid → shrunk g p (rho ⊗ rho) (g ⊗ g ⊗ p ⊕ rho ⊗ rho) floor u ≡ systematic g rho floor u grid
@@ -25,8 +23,3 @@ module _ (g rho floor : Float) (u : List Float) (grid : Float) where
       → r ≡ systematic g rho floor u grid
   unfolding shrunk
   something-said e t h = h ∙ passed _ _ _ t ∙ from-prior e
-
-pub noise-is : (m : CovarianceModel) (sigma : Float) {v f0 f1 : Float} {r : PositionCovariance} → v ≡ variance sigma → f0 ≡ grown v (at (m .growth) 0) → f1 ≡ grown v (at (m .growth) 1)
-    → r ≡ scaled (m .noise) v f0 f1 → r ≡ noise m (variance sigma)
-noise-is m sigma {v} {f0} {f1} e a b h =
-    h ∙ ap (λ (f : Float). scaled (m .noise) v f f1) a ∙ ap (λ (f : Float). scaled (m .noise) v (grown v (at (m .growth) 0)) f) b ∙ ap (noise m) e

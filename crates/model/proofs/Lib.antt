@@ -1,6 +1,4 @@
--- Laws on ranges, on knots and on the formulas.
-pub mod Bounds
-pub mod Tables
+-- Laws on tables of knots and on the formulas.
 pub mod Formulas
 pub mod Refusals
 pub mod Laws

@@ -12,9 +12,10 @@ use Rattle.refine.specs.declared.PositionCovariance.{PositionCovariance}
 use Rattle.refine.proofs.Refusing.{and, and-left, and-right, stands, follows}
 use Rattle.model.specs.declared.SystematicModel.{SystematicModel}
 use Rattle.model.specs.declared.At.{At}
-use Rattle.model.specs.declared.Width.{Width}
-use Rattle.model.specs.declared.Place.{Place}
-use Rattle.model.specs.Knots.{every, risesAt, rising, ranged, knotsNumber, place, column, noKnots, atOf}
+use Rattle.knots.specs.declared.Width.{Width}
+use Rattle.knots.specs.declared.Place.{Place}
+use Rattle.knots.specs.Places.{every, risesAt, place, column}
+use Rattle.model.specs.Knots.{rising, ranged, knotsNumber, noKnots, atOf}
 use Rattle.model.specs.Model as Model
 use Rattle.model.specs.Model.{systematicAt, modelNumber, plain, refusal, modelOf}
 

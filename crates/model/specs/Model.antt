@@ -7,11 +7,11 @@ use lib.Ieee.{Float}
 use Rattle.refine.specs.Covariance.{covariance, allFinite}
 use Rattle.refine.specs.declared.PositionCovariance.{PositionCovariance}
 use Rattle.model.specs.declared.SystematicModel.{SystematicModel}
-use Rattle.model.specs.declared.CovarianceModel.{CovarianceModel}
+use Rattle.covariance.specs.declared.CovarianceModel.{CovarianceModel}
 use Rattle.model.specs.declared.Modelled.{Modelled}
-use Rattle.model.specs.declared.Width.{Width}
-use Rattle.model.specs.Arith.{plusZero}
-use Rattle.model.specs.Ranges.{upTo, allWithin, bothWithin}
+use Rattle.knots.specs.declared.Width.{Width}
+use Rattle.ranges.specs.Arith.{plusZero}
+use Rattle.ranges.specs.Ranges.{upTo, allWithin, bothWithin}
 use Rattle.model.specs.Knots.{knotsNumber, atOf}
 use Rattle.model.specs.Systematic.{systematic}
 

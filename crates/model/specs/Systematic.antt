@@ -4,7 +4,7 @@ use mathlib.Core.List.{List}
 use lib.Ieee.{Float, le}
 use Rattle.refine.specs.Covariance.{covariance}
 use Rattle.refine.specs.declared.PositionCovariance.{PositionCovariance}
-use Rattle.model.specs.Arith.{_⊕_, _⊖_, _⊗_, _⊘_, at, plusZero, twelve}
+use Rattle.ranges.specs.Arith.{_⊕_, _⊖_, _⊗_, _⊘_, at, plusZero, twelve}
 
 -- the variance of a quantity spread uniformly over an interval
 abbrev pub uniformVariance : Float → Float

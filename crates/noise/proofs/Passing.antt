@@ -13,7 +13,7 @@ use Rattle.grid.specs.Step.{stepOf}
 use Rattle.grid.specs.Grid.{totalOf}
 use Rattle.grid.specs.Needed.{firstW, secondW, neededOf}
 use Rattle.grid.proofs.Memory.{first-fits, second-fits}
-use Rattle.sample.specs.Figures.{figuresOf}
+use Rattle.measure.specs.Figures.{figuresOf}
 use Rattle.answer.specs.declared.Answer.{Answer}
 use Rattle.pass.specs.declared.Pass.{Pass}
 use Rattle.pass.specs.Pass.{passOf}

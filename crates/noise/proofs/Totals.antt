@@ -9,9 +9,9 @@ use Rattle.window.specs.declared.WindowStats.{WindowStats}
 use Rattle.grid.specs.Step.{stepOf}
 use Rattle.grid.specs.Grid.{totalOf}
 use Rattle.grid.specs.Needed.{firstW, secondW}
-use Rattle.sample.specs.Bands.{sampleOf}
-use Rattle.sample.specs.Figures.{figuresOf}
-use Rattle.sample.proofs.Counting.{all-counted}
+use Rattle.band.specs.Bands.{sampleOf}
+use Rattle.measure.specs.Figures.{figuresOf}
+use Rattle.band.proofs.Counting.{all-counted}
 use Rattle.sample.proofs.Parts.{figures-long}
 use Rattle.answer.specs.declared.Answer.{Answer}
 use Rattle.pass.specs.Pass.{packed, passOf}

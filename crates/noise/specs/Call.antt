@@ -11,7 +11,7 @@ use Rattle.window.specs.declared.WindowStats.{WindowStats}
 use Rattle.grid.specs.Step.{stepOf}
 use Rattle.grid.specs.Grid.{Sides}
 use Rattle.grid.specs.Needed.{firstW, secondW, neededOf}
-use Rattle.sample.specs.Figures.{figuresOf}
+use Rattle.measure.specs.Figures.{figuresOf}
 use Rattle.pass.specs.Memory.{intsFor, floatsFor}
 use Rattle.clear.specs.Cleared.{cleared}
 use Rattle.answer.specs.declared.Answer.{Answer}

@@ -5,7 +5,7 @@ use Prim.Native.Nat.{ℕ, zero, suc, _+_, _-_, _*_, _≤_, _<_}
 use native.Mathlib.Omega.{arith}
 use lib.ListN.{length, getD, take, drop, length-take, length-drop}
 use lib.Ieee.{Float}
-use Rattle.sample.specs.declared.Sample.{Sample}
+use Rattle.band.specs.declared.Sample.{Sample}
 use Rattle.rounds.specs.Rounds.{Bands}
 use Rattle.joining.specs.Joining.{noise}
 use Rattle.joining.specs.declared.Noise.{Noise}

@@ -12,11 +12,11 @@ use Rattle.window.specs.declared.WindowStats.{WindowStats}
 use Rattle.grid.specs.Grid.{Sides, totalOf}
 use Rattle.grid.proofs.Places.{total-most}
 use Rattle.grid.proofs.Steps.{few}
-use Rattle.sample.specs.Figures.{figuresOf}
-use Rattle.sample.specs.Bands.{countOf, rail, sampleOf}
+use Rattle.measure.specs.Figures.{figuresOf}
+use Rattle.band.specs.Bands.{countOf, rail, sampleOf}
 use Rattle.sample.specs.Laid.{gatesOf, squaresOf}
-use Rattle.sample.specs.declared.Sample.{Sample}
-use Rattle.sample.proofs.Counting.{Counts, counts, count-most}
+use Rattle.band.specs.declared.Sample.{Sample}
+use Rattle.band.proofs.Counting.{Counts, counts, count-most}
 use Rattle.sample.proofs.Parts.{figures-long}
 use Rattle.rounds.specs.Rounds.{band, imageVariance}
 use Rattle.rounds.specs.declared.Settled.{Settled}

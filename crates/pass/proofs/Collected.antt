@@ -8,11 +8,11 @@ use lib.Seq.{drop-at}
 use lib.IntN.{ℤ}
 use lib.Ieee.{Float}
 use Rattle.window.specs.declared.WindowStats.{WindowStats}
-use Rattle.sample.specs.Columns.{columnCount, field, columns, columnsIn}
-use Rattle.sample.specs.Bands.{banded, keptOf, sampleOf}
+use Rattle.measure.specs.Columns.{columnCount, field, columns, columnsIn}
+use Rattle.band.specs.Bands.{banded, keptOf, sampleOf}
 use Rattle.sample.specs.Laid.{gate32, square32, gatesOf, squaresOf, laidIn}
-use Rattle.sample.specs.declared.Sample.{Sample}
-use Rattle.sample.proofs.Counting.{counts, kept-most}
+use Rattle.band.specs.declared.Sample.{Sample}
+use Rattle.band.proofs.Counting.{counts, kept-most}
 use Rattle.sample.proofs.Scattering.{kept-by}
 use Rattle.sample.proofs.Parts.{gates-first, squares-next}
 use Rattle.joining.specs.Joining.{noise}

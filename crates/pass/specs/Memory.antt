@@ -6,7 +6,7 @@ use lib.ListN.{length, drop}
 use lib.IntN.{ℤ}
 use lib.Ieee.{Float}
 use Rattle.grid.specs.Grid.{Sides, totalOf}
-use Rattle.sample.specs.Columns.{columnCount}
+use Rattle.measure.specs.Columns.{columnCount}
 
 -- how many numbers of each kind m windows take
 abbrev pub intsFor : ℕ → ℕ

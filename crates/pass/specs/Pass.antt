@@ -4,9 +4,9 @@ use Prim.Native.Nat.{ℕ, _+_, _*_, _^_, _≤_, _<_}
 use lib.ListN.{length}
 use lib.Ieee.{Float}
 use Rattle.window.specs.declared.WindowStats.{WindowStats}
-use Rattle.sample.specs.Bands.{sampleOf}
+use Rattle.band.specs.Bands.{sampleOf}
 use Rattle.sample.specs.Laid.{gatesOf, squaresOf}
-use Rattle.sample.specs.declared.Sample.{Sample}
+use Rattle.band.specs.declared.Sample.{Sample}
 use Rattle.joining.specs.Joining.{noise, numberOf, figureOf}
 use Rattle.joining.specs.declared.Noise.{Noise}
 use Rattle.pass.specs.declared.Pass.{Pass}

@@ -3,13 +3,13 @@ ghost use mathlib.Core.Path.{_≡_};
 ghost use Prim.Native.Nat.{_+_};
 ghost use lib.ListN.{take, drop};
 ghost use Rattle.grid.specs.Grid.{totalOf};
-ghost use Rattle.sample.specs.Figures.{figuresOf};
+ghost use Rattle.measure.specs.Figures.{figuresOf};
 ghost use Rattle.joining.specs.Joining.{noise, numberOf, figureOf};
 ghost use Rattle.pass.specs.Memory.{intsFor, floatsFor, Runnable, Beyond};
 ghost use Rattle.pass.specs.Pass.{keptBy, startsBy, packed, passOf, Small, Room};
+use band::Sample;
 use joining::Noise;
 use joining::Sigma;
-use sample::Sample;
 
 // What one pass finds: a number, sigma where it is 0, the rounds evaluated, and how many windows the bands have and the rails.
 pub struct Pass {

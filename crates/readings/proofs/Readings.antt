@@ -2,11 +2,12 @@
 use mathlib.Core.Path.{refl}
 use lib.Ieee.{ofInt, round, lt, le, eq, add, sub, mul, div}
 use Rattle.ieee.specs.Order.{finite}
-use Rattle.model.specs.Ranges.{within, upTo}
-use Rattle.model.specs.Knots.{knotsNumber, place, column, atOf}
+use Rattle.ranges.specs.Ranges.{within, upTo}
+use Rattle.knots.specs.Places.{place, column}
+use Rattle.model.specs.Knots.{knotsNumber, atOf}
 use Rattle.ieee.specs.Convert.{convert}
 use Rattle.window.specs.Window.{statsOf, gate}
-use Rattle.sample.specs.Bands.{bandOf}
+use Rattle.band.specs.Bands.{bandOf}
 use Rattle.grid.specs.Step.{stepOf}
 use Rattle.readings.specs.Listing.{listing, AllHold}
 

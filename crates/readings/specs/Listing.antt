@@ -7,13 +7,13 @@ use lib.IntN.{pos}
 use lib.Ieee.{Float, binary32, binary64, ofInt, round}
 use lib.Ieee.Exact.{HasValue}
 use Rattle.ieee.specs.Convert.{convert}
-use Rattle.model.specs.declared.Width.the-variants.{Known}
-use Rattle.model.specs.Arith.{plusZero}
+use Rattle.knots.specs.declared.Width.the-variants.{Known}
+use Rattle.ranges.specs.Arith.{plusZero}
 use Rattle.model.specs.Knots.{atOf}
 use Rattle.model.proofs.Laws.{table}
 use Rattle.window.specs.Readings.{windowReadings, Reads}
 use Rattle.window.specs.Readings as Window
-use Rattle.sample.specs.Bands.{bandOf}
+use Rattle.band.specs.Bands.{bandOf}
 use Rattle.sample.proofs.Known.{BandRow, bands}
 use Rattle.grid.specs.Step.{stepOf}
 use Rattle.grid.specs.Grid.{firstX}

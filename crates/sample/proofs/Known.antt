@@ -5,7 +5,7 @@ use Prim.Native.Nat.{ℕ, _*_, _^_}
 use lib.IntN.{pos, negsuc}
 use lib.Ieee.{Float, nan, inf, fin, ofInt}
 use Rattle.window.specs.declared.WindowStats.{WindowStats}
-use Rattle.sample.specs.Bands.{rail, bandOf}
+use Rattle.band.specs.Bands.{rail, bandOf}
 use Rattle.sample.specs.Laid.{gate32}
 
 -- a sum and its band

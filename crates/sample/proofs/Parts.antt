@@ -9,11 +9,11 @@ use lib.IntN.{ℤ}
 use lib.Ieee.{Float}
 use Rattle.window.specs.declared.WindowStats.{WindowStats}
 use Rattle.grid.specs.Grid.{Place, placesOf, totalOf}
-use Rattle.sample.specs.Figures.{figureAt, figuresOf}
-use Rattle.sample.specs.Columns.{columnCount, columns, columnsIn}
-use Rattle.sample.specs.Bands.{banded, keptOf}
+use Rattle.measure.specs.Figures.{figureAt, figuresOf}
+use Rattle.measure.specs.Columns.{columnCount, columns, columnsIn}
+use Rattle.band.specs.Bands.{banded, keptOf}
 use Rattle.sample.specs.Laid.{gate32, square32, gatesOf, squaresOf, laidIn}
-use Rattle.sample.proofs.Columns.{columns-count}
+use Rattle.measure.proofs.Columns.{columns-count}
 
 -- a pass has as many figures as windows
 pub figures-long : (img : List ℕ) (w h windows : ℕ) → length (figuresOf img w h windows) ≡ totalOf w h windows

@@ -14,12 +14,12 @@ use lib.Ieee.{Float}
 use Rattle.laws.specs.Lists.{from, joined}
 use Rattle.laws.proofs.Fill.{from-more, from-none, length-from}
 use Rattle.window.specs.declared.WindowStats.{WindowStats}
-use Rattle.sample.specs.Columns.{figureIn, figuresIn}
-use Rattle.sample.specs.Bands.{rail, bandOf, ofBand, countOf, banded, keptOf}
-use Rattle.sample.specs.declared.Sample.{Sample}
+use Rattle.measure.specs.Columns.{figureIn, figuresIn}
+use Rattle.band.specs.Bands.{rail, bandOf, ofBand, countOf, banded, keptOf}
+use Rattle.band.specs.declared.Sample.{Sample}
 use Rattle.sample.specs.Laid.{gate32, square32, laidIn}
-use Rattle.sample.proofs.Rows.{map-append}
-use Rattle.sample.proofs.Counting.{kept-sum, kept-most, Counts}
+use Rattle.measure.proofs.Rows.{map-append}
+use Rattle.band.proofs.Counting.{kept-sum, kept-most, Counts}
 use Rattle.sample.proofs.Segments.{Segment, segment-start, segment-put, segment-keep, segment-end}
 
 -- ---- the windows of a band, one window at a time

@@ -7,11 +7,11 @@ use lib.IntN.{ℤ}
 use lib.Ieee as Ieee
 use lib.Ieee.{Float, binary32}
 use Rattle.window.specs.declared.WindowStats.{WindowStats}
-use Rattle.sample.specs.Bands.{banded, keptOf, sampleOf}
-use Rattle.sample.specs.Columns.{columnCount, figuresIn}
-use Rattle.sample.specs.Figures.{Measurable}
+use Rattle.band.specs.Bands.{banded, keptOf, sampleOf}
+use Rattle.measure.specs.Columns.{columnCount, figuresIn}
+use Rattle.measure.specs.Figures.{Measurable}
 use Rattle.grid.specs.Grid.{totalOf}
-use Rattle.sample.specs.declared.Sample.{Sample}
+use Rattle.band.specs.declared.Sample.{Sample}
 
 -- the gate, rounded once
 abbrev pub gate32 : WindowStats → Float

@@ -1,4 +1,1 @@
-pub mod Figures
-pub mod Columns
-pub mod Bands
 pub mod Laid

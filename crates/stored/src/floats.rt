@@ -70,10 +70,10 @@ pub fn answer(letter: u8, a: u64, b: u64) -> u64
     let kind = letter % 32;
     match kind {
         0 => 0,
-        1 => of_single(float::sqrt32(x)),
-        2 => of_double(float::sqrt64(p)),
-        3 => of_single(float::to_f32(p)),
-        4 => of_single(float::floor32(x)),
+        1 => of_single(roots::sqrt32(x)),
+        2 => of_double(roots::sqrt64(p)),
+        3 => of_single(convert::to_f32(p)),
+        4 => of_single(convert::floor32(x)),
         5 => of_double(float::abs64(p)),
         6 => of_bool(float::is_finite32(x)),
         7 => of_single(float::max32(x, y)),

@@ -54,14 +54,14 @@ pub fn admitted(gate: &[f32], op: &[f32], gate_var: f64, op_var: f64) -> Total
 fn threshold(var: f64) -> f32
     ensures { λ r. ⌜ r ≡ Admitted.threshold var ⌝ }
 {
-    float::to_f32(GATE * float::max64(var, ROUNDING_OP_VAR))
+    convert::to_f32(GATE * float::max64(var, ROUNDING_OP_VAR))
 }
 
 // An admitted window's squared output is at most this.
 fn cut(var: f64) -> f32
     ensures { λ r. ⌜ r ≡ Admitted.cut var ⌝ }
 {
-    float::to_f32(TRUNC * TRUNC * float::max64(var, ROUNDING_OP_VAR))
+    convert::to_f32(TRUNC * TRUNC * float::max64(var, ROUNDING_OP_VAR))
 }
 
 // How many of len windows the block from window a on has.

@@ -1,17 +1,8 @@
--- The code's float constants are the numbers that the definitions name, rounded once.
+-- The code's float constant is the number that the definition names, rounded once.
 use mathlib.Core.Path.{_≡_, refl}
-use lib.Ieee.{Float, binary32, ofBits, ofInt, round, mul}
+use lib.Ieee.{binary32, ofBits, ofInt, round, mul}
 use Rattle.ieee.specs.Sqrt.{sqrt}
-use Rattle.levels.specs.Whole.{whole}
 use Rattle.tile.specs.Width.{rootTwoPi}
-
-pub four-is : ofBits binary32 0x4080_0000 ≡ whole 4
-unfolding ofBits ofInt
-four-is = refl
-
-pub six-is : ofBits binary32 0x40c0_0000 ≡ whole 6
-unfolding ofBits ofInt
-six-is = refl
 
 pub root-is : ofBits binary32 0x4020_6c99 ≡ rootTwoPi
 unfolding ofBits ofInt round mul sqrt

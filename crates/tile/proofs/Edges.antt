@@ -9,16 +9,16 @@ use lib.Ieee.{Float, nan, binary32, sub, mul, div, lt, ofBits}
 use Rattle.laws.proofs.Choice.{chosen, passed}
 use Rattle.levels.specs.Whole.{whole, Upto}
 use Rattle.levels.specs.Clear.{AllClear}
-use Rattle.tile.specs.Tile.{inRows, read}
-use Rattle.tile.specs.Smoothing.{down, across, smoothed}
-use Rattle.tile.specs.Gradients.{values, gradients}
+use Rattle.disk.specs.Rows.{inRows, read}
+use Rattle.disk.specs.Smoothing.{down, across, smoothed}
+use Rattle.disk.specs.Gradients.{values, gradients}
 use Rattle.levels.specs.Levels.{highLevel, lowLevel}
 use Rattle.tile.specs.Width.{Answer, width, number, rootTwoPi, edgeOf}
 use Rattle.levels.specs.Steepness.{steepness}
 use Rattle.levels.proofs.Constants.{zero-is}
 use Rattle.tile.proofs.Constants.{root-is}
-use Rattle.tile.proofs.Places.{Agree, values-same, gradients-same, smooth-read}
-use Rattle.tile.proofs.Smoothed.{smooth-upto, gradients-clear}
+use Rattle.disk.proofs.Places.{Agree, values-same, gradients-same, smooth-read}
+use Rattle.disk.proofs.Smoothed.{smooth-upto, gradients-clear}
 
 -- squares that agree on 13 rows of 13 have the same answer
 pub edge-same : (s t : ℕ → ℕ → Float) → Agree s t → edgeOf s ≡ edgeOf t

@@ -1,6 +1,3 @@
 pub mod Constants
-pub mod Rows
-pub mod Table
 pub mod Places
-pub mod Smoothed
 pub mod Edges

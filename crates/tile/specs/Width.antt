@@ -3,7 +3,7 @@ use Prim.Native.Nat.{ℕ, _^_}
 use mathlib.Core.Bool.{false, cond}
 use lib.Ieee.{Float, binary32, sub, mul, div, lt, round}
 use Rattle.ieee.specs.Sqrt.{sqrt}
-use Rattle.tile.specs.Gradients.{values, gradients}
+use Rattle.disk.specs.Gradients.{values, gradients}
 use Rattle.levels.specs.Whole.{whole}
 use Rattle.levels.specs.Levels.{highLevel, lowLevel}
 use Rattle.levels.specs.Steepness.{steepness}

@@ -2,7 +2,6 @@ pub mod Places
 pub mod Same
 pub mod Expressions
 pub mod Bounds
-pub mod Passes
 pub mod Weighted
 pub mod Squares
 pub mod Linear

@@ -5,7 +5,7 @@ use Prim.Native.Nat.{_*_}
 use denote.Ref.{now}
 use Rattle.grid.specs.Step.{stepOf}
 use Rattle.grid.specs.Needed.{firstW, secondW}
-use Rattle.sample.specs.Figures.{figuresOf}
+use Rattle.measure.specs.Figures.{figuresOf}
 use Rattle.noise.proofs.Passing.{runs-first, runs-second, first-ints, first-floats, both-ints, both-floats, by-first, by-only, by-second, few-rounds}
 use borrow.Author.Needs.{needs}
 use Rattle.noise.proofs.passes.Statement.{statement}

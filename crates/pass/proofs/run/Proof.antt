@@ -3,7 +3,7 @@ use mathlib.Core.Path.{_≡_, _∙_}
 use mathlib.Core.List.{List}
 use denote.Ref.{now}
 use Rattle.window.specs.declared.WindowStats.{WindowStats}
-use Rattle.sample.specs.Figures.{figuresOf}
+use Rattle.measure.specs.Figures.{figuresOf}
 use Rattle.sample.proofs.Parts.{figures-long}
 use Rattle.pass.specs.Pass.{noiseIn}
 use Rattle.pass.proofs.Bounds.{small}

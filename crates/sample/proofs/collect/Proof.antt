@@ -6,10 +6,10 @@ use lib.ListN.{length-map}
 use denote.Ref.{now}
 use Rattle.window.specs.declared.WindowStats.{WindowStats}
 use Rattle.grid.specs.Grid.{placesOf}
-use Rattle.sample.specs.Figures.{figureAt, figuresOf}
-use Rattle.sample.specs.Bands.{sampleOf}
+use Rattle.measure.specs.Figures.{figureAt, figuresOf}
+use Rattle.band.specs.Bands.{sampleOf}
 use Rattle.sample.specs.Laid.{laidIn}
-use Rattle.sample.proofs.Columns.{read-back}
+use Rattle.measure.proofs.Columns.{read-back}
 use Rattle.sample.proofs.collect.Statement.{statement}
 use Rattle.sample.proofs.collect.Tie as tie
 

@@ -6,7 +6,7 @@ use lib.Ieee as Ieee
 use lib.Ieee.{Float, binary32}
 use denote.Ref.{now}
 use Rattle.laws.proofs.Machine.{held-of}
-use Rattle.sample.specs.Columns.{figureIn}
+use Rattle.measure.specs.Columns.{figureIn}
 use Rattle.sample.specs.Laid.{gate32, square32}
 use native.Mathlib.Omega.{arith}
 use Rattle.sample.proofs.lay.Statement.{statement}

@@ -9,10 +9,10 @@ use lib.IntN.{ℤ, pos}
 use lib.Ieee.{Float}
 use denote.Ref.{now}
 use Rattle.laws.proofs.Machine.{held-of}
-use Rattle.sample.specs.Columns.{figureIn, figuresIn}
-use Rattle.sample.specs.Bands.{rail, bandOf, keptOf}
+use Rattle.measure.specs.Columns.{figureIn, figuresIn}
+use Rattle.band.specs.Bands.{rail, bandOf, keptOf}
 use Rattle.sample.specs.Laid.{gate32, square32}
-use Rattle.sample.proofs.Counting.{Counts, counts}
+use Rattle.band.proofs.Counting.{Counts, counts}
 use Rattle.sample.proofs.Scattering.{Scattering, starts, kept-by, kept-room, place-kept, scatter-start, scatter-hit, scatter-miss, scatter-end}
 use Rattle.sample.proofs.scatter.Statement.{statement}
 use Rattle.sample.proofs.scatter.Tie as tie

@@ -4,7 +4,7 @@ use mathlib.Core.List.{List}
 use lib.Ieee.{Float}
 use borrow.Author.Needs.{needs}
 use Rattle.refine.specs.declared.PositionCovariance.{PositionCovariance}
-use Rattle.model.specs.declared.CovarianceModel.{CovarianceModel}
+use Rattle.covariance.specs.declared.CovarianceModel.{CovarianceModel}
 use Rattle.compare.proofs.covariance_model.model_of.Statement.{statement}
 use Rattle.compare.proofs.covariance_model.model_of.Tie as tie
 

@@ -4,7 +4,7 @@ use denote.Ref.{now}
 use borrow.Author.Needs.{needs}
 use Rattle.refine.specs.declared.PositionCovariance.{PositionCovariance}
 use Rattle.compare.proofs.Answers.{told-of}
-use Rattle.model.specs.declared.Width.{Width}
+use Rattle.knots.specs.declared.Width.{Width}
 use Rattle.model.specs.Model.{modelOf}
 use Rattle.compare.specs.Lent.{three}
 use Rattle.compare.specs.Models.{table}

@@ -4,8 +4,8 @@ use denote.Ref.{now}
 use borrow.Author.Needs.{needs}
 use Rattle.refine.specs.Covariance.{number, figures}
 use Rattle.refine.specs.declared.Judged.{Judged}
-use Rattle.model.specs.declared.CovarianceModel.{CovarianceModel}
-use Rattle.model.specs.Noise.{noiseAt}
+use Rattle.covariance.specs.declared.CovarianceModel.{CovarianceModel}
+use Rattle.covariance.specs.Noise.{noiseAt}
 use Rattle.compare.specs.Lent.{entries}
 use Rattle.compare.specs.Models.{whole}
 use Rattle.compare.proofs.covariance_model.vuzgari_compare_noise_at.Statement.{statement}

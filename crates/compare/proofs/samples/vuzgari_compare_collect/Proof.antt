@@ -5,7 +5,7 @@ use Prim.Native.Nat.{ℕ, _≤_}
 use native.Mathlib.Omega.{arith}
 use lib.ListN.{length, set, length-set}
 use denote.Ref.{now}
-use Rattle.sample.specs.declared.Sample.{Sample}
+use Rattle.band.specs.declared.Sample.{Sample}
 use Rattle.compare.specs.Counts.{countsIn}
 use Rattle.compare.proofs.samples.vuzgari_compare_collect.Statement.{statement}
 use Rattle.compare.proofs.samples.vuzgari_compare_collect.Tie as tie

@@ -10,10 +10,11 @@ use borrow.Author.Needs.{needs}
 use borrow.Author.Tests.{not-true, not-false, ltb-true}
 use Rattle.ieee.specs.Order.{finite}
 use Rattle.refine.proofs.Refusing.{and, and-left, and-right}
-use Rattle.gradients.specs.Ranges.{stateNumber}
+use Rattle.support.specs.Ranges.{stateNumber}
 use Rattle.gradients.specs.Gradients.{column, row}
-use Rattle.gradients.proofs.Places.{place-held}
-use Rattle.gradients.proofs.Refusals.{small, add-state, add-12, add-11, add-0}
+use Rattle.support.proofs.Places.{place-held}
+use Rattle.support.proofs.Refusals.{small}
+use Rattle.gradients.proofs.Refusals.{add-state, add-12, add-11, add-0}
 use Rattle.gradients.proofs.PixelGradients.add.Statement.{statement}
 use Rattle.gradients.proofs.PixelGradients.add.Tie as tie
 

@@ -4,9 +4,10 @@ use Prim.Native.Nat.{_*_, _≤_}
 use native.Mathlib.Omega.{arith}
 use lib.ListN.{length, length-map}
 use borrow.Author.Needs.{needs}
-use Rattle.gradients.specs.Ranges.{stateNumber}
-use Rattle.gradients.proofs.Places.{few-cells, taken-long}
-use Rattle.gradients.proofs.Refusals.{small, covariance-state, covariance-0}
+use Rattle.support.specs.Ranges.{stateNumber}
+use Rattle.support.proofs.Places.{few-cells, taken-long}
+use Rattle.support.proofs.Refusals.{small}
+use Rattle.gradients.proofs.Refusals.{covariance-state, covariance-0}
 use Rattle.gradients.proofs.PixelGradients.covariance.Statement.{statement}
 use Rattle.gradients.proofs.PixelGradients.covariance.Tie as tie
 

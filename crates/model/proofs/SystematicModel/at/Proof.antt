@@ -2,8 +2,9 @@
 use mathlib.Core.Path.{_≡_, sym, _∙_, subst}
 use lib.Ieee.{ofBits}
 use borrow.Author.Needs.{needs}
-use Rattle.model.specs.Knots.{knotsNumber, Inside}
-use Rattle.model.proofs.Tables.{place-in}
+use Rattle.knots.specs.Places.{Inside}
+use Rattle.model.specs.Knots.{knotsNumber}
+use Rattle.knots.proofs.Tables.{place-in}
 use Rattle.model.proofs.Refusals.{knots, at-refused, at-found}
 use Rattle.model.proofs.SystematicModel.at.Statement.{statement}
 use Rattle.model.proofs.SystematicModel.at.Tie as tie

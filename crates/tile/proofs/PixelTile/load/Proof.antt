@@ -16,7 +16,8 @@ use Rattle.laws.proofs.Fill.{Tab, tab-start, tab-put, tab-end}
 use Rattle.laws.proofs.Ring.{Ex, v, k as lit, _⊕_, _⊖_}
 use Rattle.laws.proofs.Machine.{held, held-of, held-small, under}
 use Rattle.imageview.specs.Sample.{sample}
-use Rattle.tile.specs.Tile.{tile, inRows}
+use Rattle.disk.specs.Rows.{inRows}
+use Rattle.tile.specs.Tile.{tile}
 use Rattle.tile.proofs.PixelTile.load.Statement.{statement}
 use Rattle.tile.proofs.PixelTile.load.Tie as tie
 

@@ -1,0 +1,82 @@
+// The covariance model of uncertainty.rs at an image noise, by value.
+ghost use mathlib.Core.Path.{_≡_};
+ghost use Rattle.covariance.specs.Noise as Noise;
+ghost use Rattle.covariance.specs.Noise.{variance, grown, scaled, noiseAt};
+use refine::Judged;
+use refine::PositionCovariance;
+
+// Variance of rounding to integer grey levels: the f32 nearest to 1 / 12, the least pixel-noise variance a covariance uses.
+const ROUNDING_VAR: f32 = 0.083333336;
+
+// Everything needed to express a position covariance for a given image noise.
+pub struct CovarianceModel {
+    // First-order noise covariance per unit noise variance.
+    pub noise: PositionCovariance,
+    // Systematic covariance.
+    pub systematic: PositionCovariance,
+    // Second-order growth of the noise term per axis.
+    pub growth: [f32; 2],
+}
+
+fn variance_of(sigma: f32) -> f32
+    ensures { λ r. ⌜ r ≡ variance sigma ⌝ }
+{
+    float::max32(sigma * sigma, ROUNDING_VAR)
+}
+
+fn grown_by(var: f32, k: f32) -> f32
+    ensures { λ r. ⌜ r ≡ grown var k ⌝ }
+{
+    roots::sqrt32(1.0 + var * k * k)
+}
+
+fn scaled_by(c: PositionCovariance, var: f32, f0: f32, f1: f32) -> PositionCovariance
+    ensures { λ r. ⌜ r ≡ scaled c var f0 f1 ⌝ }
+{
+    PositionCovariance::new(
+        var * c.xx * f0 * f0,
+        var * c.xy * f0 * f1,
+        var * c.yy * f1 * f1,
+    )
+}
+
+impl CovarianceModel {
+    // Whether all of the model and sigma are in their ranges, used or not.
+    fn ranged(self, sigma: f32) -> bool
+        ensures { λ r. ⌜ r ≡ Noise.ranged self sigma ⌝ }
+    {
+        let growth = self.growth;
+        let noise = self.noise;
+        let systematic = self.systematic;
+        ranges::all_within(noise)
+            & systematic.is_finite()
+            & ranges::both_within(growth)
+            & ranges::is_level(sigma)
+    }
+
+    // The noise term alone at `sigma`.
+    pub fn noise_at(self, sigma: f32) -> Judged
+        ensures { λ r. ⌜ r ≡ noiseAt self sigma ⌝ }
+    {
+        if !self.ranged(sigma) {
+            return Judged::Refused(12);
+        }
+        let noise = self.noise;
+        let growth = self.growth;
+        let var = variance_of(sigma);
+        let f0 = grown_by(var, growth[0]);
+        let f1 = grown_by(var, growth[1]);
+        Judged::Covariance(scaled_by(noise, var, f0, f1))
+    }
+
+    // The model with an image noise of `sigma` grey levels: the noise term and the systematic one.
+    pub fn total(self, sigma: f32) -> Judged
+        ensures { λ r. ⌜ r ≡ Noise.total self sigma ⌝ }
+    {
+        let systematic = self.systematic;
+        match self.noise_at(sigma) {
+            Judged::Covariance(c) => Judged::Covariance(c.add(systematic)),
+            Judged::Refused(n) => Judged::Refused(n),
+        }
+    }
+}

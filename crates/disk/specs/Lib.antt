@@ -1,0 +1,4 @@
+pub mod Rows
+pub mod Smoothing
+pub mod Disk
+pub mod Gradients

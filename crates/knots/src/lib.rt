@@ -1,0 +1,95 @@
+// Columns of up to sixteen knots, and where an edge width lies among them.
+ghost use mathlib.Core.Path.{_≡_};
+ghost use Prim.Native.Nat.{_<_, _≤_};
+ghost use Rattle.knots.specs.Places.{every, risesAt, knotAt, between, place, Inside, blend, column};
+
+// The width of an edge, px.
+pub enum Width {
+    Known(f32),
+    Unknown,
+}
+
+// Where a width lies among the knots: at one, or a part of the way from one to the next.
+pub enum Place {
+    Knot(usize),
+    Between(usize, f32),
+}
+
+// Whether each of the first n widths is below the next.
+pub fn rises(widths: [f32; 16], n: usize) -> bool
+    requires { ⌜ n < 16 ⌝ }
+    ensures { λ r. ⌜ r ≡ every (risesAt widths) n ⌝ }
+{
+    let mut all = true;
+    let mut k = 0;
+    while k < n {
+        all = all & (widths[k] < widths[k + 1]);
+        k += 1;
+    }
+    all
+}
+
+// Whether each of a column's first n numbers is in the range of knots.
+pub fn in_range(values: [f32; 16], n: usize) -> bool
+    requires { ⌜ n ≤ 16 ⌝ }
+    ensures { λ r. ⌜ r ≡ every (knotAt values) n ⌝ }
+{
+    let mut all = true;
+    let mut k = 0;
+    while k < n {
+        all = all & ranges::within_thousand(values[k]);
+        k += 1;
+    }
+    all
+}
+
+// The place of w, which is above the first knot, among the first knot and the n after it.
+fn between_knots(widths: [f32; 16], w: f32, n: usize) -> Place
+    requires { ⌜ n < 16 ⌝ }
+    ensures { λ r. ⌜ r ≡ between widths w 0 n ⌝ }
+{
+    let mut k = 0;
+    while k < n {
+        let lower = widths[k];
+        let upper = widths[k + 1];
+        if w <= upper {
+            return Place::Between(k, (w - lower) / (upper - lower));
+        }
+        k += 1;
+    }
+    Place::Knot(k)
+}
+
+pub fn place_of(widths: [f32; 16], count: usize, width: Width) -> Place
+    requires { ⌜ (0 < count) × (count ≤ 16) ⌝ }
+    ensures { λ r. ⌜ r ≡ place widths count width ⌝ }
+{
+    match width {
+        Width::Unknown => Place::Knot(0),
+        Width::Known(w) => {
+            if float::is_finite32(w) & !(w <= widths[0]) {
+                between_knots(widths, w, count - 1)
+            } else {
+                Place::Knot(0)
+            }
+        }
+    }
+}
+
+// A column's number at a place.
+pub fn interpolated(values: [f32; 16], p: Place) -> f32
+    requires { ⌜ Inside 16 p ⌝ }
+    ensures { λ r. ⌜ r ≡ column values p ⌝ }
+{
+    match p {
+        Place::Knot(k) => values[k],
+        Place::Between(k, t) => blended(values[k], values[k + 1], t),
+    }
+}
+
+// The part t of the way from one number to another.
+fn blended(lower: f32, upper: f32, t: f32) -> f32
+    ensures { λ r. ⌜ r ≡ blend lower upper t ⌝ }
+{
+    lower + t * (upper - lower)
+}

@@ -1,0 +1,3 @@
+pub mod Places
+pub mod Refusals
+pub mod Laws

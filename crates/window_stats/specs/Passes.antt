@@ -1,0 +1,42 @@
+-- What each step of the measuring makes: rows of pixels, the four polynomials down and across, the weighted squares.
+use mathlib.Core.List.{List, [], _∷_}
+use Prim.Native.Nat.{ℕ, _+_, _≤_}
+use lib.ListN.{getD}
+use lib.IntN.{ℤ, pos, natAbs, _+ℤ_, _-ℤ_, _*ℤ_}
+use Rattle.window.specs.Window.{sq, ofRows}
+
+pub record Small (n : ℕ) (z : ℤ) : Type 0 where
+  pub small : natAbs z ≤ n
+
+-- four pixels from a place of the image
+abbrev pub rowAt : List ℕ → ℕ → List ℤ
+rowAt img at = pos (getD img at 0) ∷ pos (getD img (at + 1) 0) ∷ pos (getD img (at + 2) 0) ∷ pos (getD img (at + 3) 0) ∷ []
+
+abbrev pub poly4Of : ℤ → ℤ → ℤ → ℤ → List ℤ
+poly4Of a b c d =
+    (a +ℤ b +ℤ c +ℤ d) ∷ (pos 3 *ℤ (d -ℤ a) +ℤ c -ℤ b) ∷ (a -ℤ b -ℤ c +ℤ d) ∷ (a -ℤ pos 3 *ℤ b +ℤ pos 3 *ℤ c -ℤ d) ∷ []
+
+abbrev pub columnOf : List (List ℤ) → ℕ → List ℤ
+columnOf m x = ofRows m x 0 ∷ ofRows m x 1 ∷ ofRows m x 2 ∷ ofRows m x 3 ∷ []
+
+abbrev pub transposed : List (List ℤ) → List (List ℤ)
+transposed m = columnOf m 0 ∷ columnOf m 1 ∷ columnOf m 2 ∷ columnOf m 3 ∷ []
+
+-- the polynomials down column x
+abbrev pub poly4Column : List (List ℤ) → ℕ → List ℤ
+poly4Column m x = poly4Of (ofRows m x 0) (ofRows m x 1) (ofRows m x 2) (ofRows m x 3)
+
+-- row p is polynomial p of each column
+abbrev pub poly4Down : List (List ℤ) → List (List ℤ)
+poly4Down m = transposed (poly4Column m 0 ∷ poly4Column m 1 ∷ poly4Column m 2 ∷ poly4Column m 3 ∷ [])
+
+-- the gate's weights, of six components and of (2, 2)
+abbrev pub cross : ℤ
+cross = pos 5
+
+abbrev pub middle : ℤ
+middle = pos 25
+
+abbrev pub weighOf : ℤ → ℤ → ℤ → ℤ → ℤ → ℤ → ℤ → ℤ → ℤ → ℤ
+weighOf c12 c21 c23 c32 c30 c03 c22 c13 c31 =
+    cross *ℤ (sq c12 +ℤ sq c21 +ℤ sq c23 +ℤ sq c32 +ℤ sq c30 +ℤ sq c03) +ℤ middle *ℤ sq c22 +ℤ sq c13 +ℤ sq c31
