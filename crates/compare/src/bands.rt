@@ -10,7 +10,6 @@ ghost use Rattle.sums.specs.Start.{meanQuiet};
 ghost use Rattle.rounds.specs.Rounds.{bandVariance, imageVariance};
 ghost use Rattle.joining.specs.Joining.{countOf, varianceOf, noise, numberOf, figureOf};
 ghost use Rattle.compare.specs.Bands.{InOrder, starts};
-
 use joining::Sigma;
 use rounds::Found;
 
@@ -30,7 +29,12 @@ pub extern "C" fn vuzgari_compare_mean_quiet(op: &[f32], gate: &[f32], quiet: f3
 }
 
 #[no_mangle]
-pub extern "C" fn vuzgari_compare_admitted_count(gate: &[f32], op: &[f32], gate_var: f64, op_var: f64) -> usize
+pub extern "C" fn vuzgari_compare_admitted_count(
+    gate: &[f32],
+    op: &[f32],
+    gate_var: f64,
+    op_var: f64,
+) -> usize
     requires { ⌜ length (now gate) ≡ length (now op) ⌝ }
     ensures { λ r. ⌜ r ≡ admittedAt (now (gate .entry)) (now (op .entry)) «gate_var» «op_var» .n ⌝ }
 {
@@ -39,7 +43,12 @@ pub extern "C" fn vuzgari_compare_admitted_count(gate: &[f32], op: &[f32], gate_
 }
 
 #[no_mangle]
-pub extern "C" fn vuzgari_compare_admitted_sum(gate: &[f32], op: &[f32], gate_var: f64, op_var: f64) -> f64
+pub extern "C" fn vuzgari_compare_admitted_sum(
+    gate: &[f32],
+    op: &[f32],
+    gate_var: f64,
+    op_var: f64,
+) -> f64
     requires { ⌜ length (now gate) ≡ length (now op) ⌝ }
     ensures { λ r. ⌜ r ≡ admittedAt (now (gate .entry)) (now (op .entry)) «gate_var» «op_var» .sum ⌝ }
 {
@@ -85,7 +94,13 @@ pub extern "C" fn vuzgari_compare_variance_rounds(gate: &[f32], op: &[f32], imag
 }
 
 #[no_mangle]
-pub extern "C" fn vuzgari_compare_image_variance(gate: &[f32], op: &[f32], e1: usize, e2: usize, e3: usize) -> f64
+pub extern "C" fn vuzgari_compare_image_variance(
+    gate: &[f32],
+    op: &[f32],
+    e1: usize,
+    e2: usize,
+    e3: usize,
+) -> f64
     requires { ⌜ InOrder (now gate) (now op) e1 e2 e3 ⌝ }
     ensures { λ r. ⌜ r ≡ imageVariance (now (gate .entry)) (now (op .entry)) (starts (now (gate .entry)) e1 e2 e3) .var ⌝ }
 {
@@ -95,7 +110,13 @@ pub extern "C" fn vuzgari_compare_image_variance(gate: &[f32], op: &[f32], e1: u
 }
 
 #[no_mangle]
-pub extern "C" fn vuzgari_compare_image_rounds(gate: &[f32], op: &[f32], e1: usize, e2: usize, e3: usize) -> usize
+pub extern "C" fn vuzgari_compare_image_rounds(
+    gate: &[f32],
+    op: &[f32],
+    e1: usize,
+    e2: usize,
+    e3: usize,
+) -> usize
     requires { ⌜ InOrder (now gate) (now op) e1 e2 e3 ⌝ }
     ensures { λ r. ⌜ r ≡ imageVariance (now (gate .entry)) (now (op .entry)) (starts (now (gate .entry)) e1 e2 e3) .rounds ⌝ }
 {
@@ -105,7 +126,13 @@ pub extern "C" fn vuzgari_compare_image_rounds(gate: &[f32], op: &[f32], e1: usi
 }
 
 #[no_mangle]
-pub extern "C" fn vuzgari_compare_noise_number(gate: &[f32], op: &[f32], e1: usize, e2: usize, e3: usize) -> u32
+pub extern "C" fn vuzgari_compare_noise_number(
+    gate: &[f32],
+    op: &[f32],
+    e1: usize,
+    e2: usize,
+    e3: usize,
+) -> u32
     requires { ⌜ InOrder (now gate) (now op) e1 e2 e3 ⌝ }
     ensures { λ r. ⌜ r ≡ numberOf (noise (now (gate .entry)) (now (op .entry)) (starts (now (gate .entry)) e1 e2 e3) .sigma) ⌝ }
 {
@@ -119,7 +146,13 @@ pub extern "C" fn vuzgari_compare_noise_number(gate: &[f32], op: &[f32], e1: usi
 }
 
 #[no_mangle]
-pub extern "C" fn vuzgari_compare_noise_sigma(gate: &[f32], op: &[f32], e1: usize, e2: usize, e3: usize) -> f32
+pub extern "C" fn vuzgari_compare_noise_sigma(
+    gate: &[f32],
+    op: &[f32],
+    e1: usize,
+    e2: usize,
+    e3: usize,
+) -> f32
     requires { ⌜ InOrder (now gate) (now op) e1 e2 e3 ⌝ }
     ensures { λ r. ⌜ r ≡ figureOf (noise (now (gate .entry)) (now (op .entry)) (starts (now (gate .entry)) e1 e2 e3) .sigma) ⌝ }
 {
@@ -133,7 +166,13 @@ pub extern "C" fn vuzgari_compare_noise_sigma(gate: &[f32], op: &[f32], e1: usiz
 }
 
 #[no_mangle]
-pub extern "C" fn vuzgari_compare_noise_rounds(gate: &[f32], op: &[f32], e1: usize, e2: usize, e3: usize) -> usize
+pub extern "C" fn vuzgari_compare_noise_rounds(
+    gate: &[f32],
+    op: &[f32],
+    e1: usize,
+    e2: usize,
+    e3: usize,
+) -> usize
     requires { ⌜ InOrder (now gate) (now op) e1 e2 e3 ⌝ }
     ensures { λ r. ⌜ r ≡ noise (now (gate .entry)) (now (op .entry)) (starts (now (gate .entry)) e1 e2 e3) .rounds ⌝ }
 {

@@ -1,5 +1,6 @@
 // Exports for comparison only: what document 01 does not call from C, under names of its own, so that `oracle/` can run it
 // beside the original. Each has the contract of the function it calls.
+pub mod bands;
 pub mod covariance_model;
 mod covariances;
 pub mod floats;
@@ -7,4 +8,3 @@ pub mod grids;
 pub mod pixel_gradients;
 pub mod samples;
 pub mod windows;
-pub mod bands;

@@ -8,7 +8,6 @@ ghost use Rattle.answer.specs.Fields.{wordsOf};
 ghost use Rattle.lid.specs.Input.{mostPixels, says, parsedOf};
 ghost use Rattle.lid.specs.Answer.{noiseAnswer, lidAnswer};
 ghost use Rattle.lid.specs.Report.{reportBytes, reportOf, outputOf};
-
 use answer::Answer;
 
 // More pixels than this are 16.
@@ -95,7 +94,12 @@ pub fn print(a: Answer, out: &mut [u8]) -> usize
 {
     let kinds = [0u8, 1, 0, 0, 0, 0, 0, 0, 0, 0];
     let fields = values(a);
-    text::put_report(out, b"answer sigma milli b0 b1 b2 b3 rail rounds passes\n", &kinds, &fields)
+    text::put_report(
+        out,
+        b"answer sigma milli b0 b1 b2 b3 rail rounds passes\n",
+        &kinds,
+        &fields,
+    )
 }
 
 // The answer to an input.

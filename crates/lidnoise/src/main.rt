@@ -1,5 +1,6 @@
 // `lidnoise`: a small lid on standard input, its noise in two lines on standard output.
-use libc::{STDIN_FILENO, STDOUT_FILENO};
+use libc::STDIN_FILENO;
+use libc::STDOUT_FILENO;
 
 fn main() {
     let mut input = [0u8; lid::INPUT_BYTES];

@@ -83,9 +83,9 @@ returns : tie.Need-returns
 returns c =
     let w1 = c .before .before .before .before .before .before .before .before .before in
     (λ i. w1 .wide .ensures i ∷ c .before .before .before .before .before .before .before .before .wide2 .ensures i
-        ∷ c .before .before .before .before .before .before .before .wide3 .ensures i ∷ c .before .before .before .before .before .before .wide4 .ensures i
-        ∷ c .before .before .before .before .before .wide5 .ensures i ∷ c .before .before .before .before .wide6 .ensures i
-        ∷ c .before .before .before .wide7 .ensures i ∷ c .before .before .wide8 .ensures i ∷ c .before .wide9 .ensures i ∷ c .wide10 .ensures i ∷ [])
+    ∷ c .before .before .before .before .before .before .before .wide3 .ensures i ∷ c .before .before .before .before .before .before .wide4 .ensures i
+    ∷ c .before .before .before .before .before .wide5 .ensures i ∷ c .before .before .before .before .wide6 .ensures i
+    ∷ c .before .before .before .wide7 .ensures i ∷ c .before .before .wide8 .ensures i ∷ c .before .wide9 .ensures i ∷ c .wide10 .ensures i ∷ [])
     ∙ ap table (w1 .before .words .ensures)
 
 pub values-spec : {M : Type 1} → statement M
