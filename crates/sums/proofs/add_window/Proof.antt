@@ -72,7 +72,7 @@ cast-count : tie.Need-cast-count Inv-loop μ-loop
 cast-count c = omega (arith, c .one .ensures .1)
 
 add-count : tie.Need-add-count Inv-loop μ-loop
-add-count c = omega (arith, c .one .ensures .1, step-few (c .before .before .before .before .before .before .before .loop .inv) (c .before .before .before .before .before .before .loop-test .taken))
+add-count c = omega (arith, c .one .ensures .1, step-few (c .before .before .before .before .before .before .before .loop .inv) (omega arith))
 
 mul-count : tie.Need-mul-count Inv-loop μ-loop
 mul-count c = omega arith
@@ -87,10 +87,10 @@ loop-less : tie.Need-loop-less Inv-loop μ-loop
 loop-less c = omega arith
 
 loop-again : tie.Need-loop-again Inv-loop μ-loop
-loop-again c = step-put (c .before .before .before .before .before .before .before .loop .inv) (c .before .before .before .before .before .before .loop-test .taken) (c .before .value .ensures) (c .one .ensures .0)
+loop-again c = step-put (c .before .before .before .before .before .before .before .loop .inv) (omega arith) (c .before .value .ensures) (c .one .ensures .0)
 
 returns : tie.Need-returns Inv-loop μ-loop
-returns c = step-end (c .before .loop .inv) (c .loop-test .left)
+returns c = step-end (c .before .loop .inv) (omega arith)
 
 pub add-window-spec : {M : Type 1} → statement M
 add-window-spec =
