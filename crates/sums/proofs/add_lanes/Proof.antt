@@ -30,10 +30,14 @@ f32-to-f64-with-nan-requires : tie.Need-f32-to-f64-with-nan-requires Inv-loop μ
 f32-to-f64-with-nan-requires c κs = tt
 
 cast-n : tie.Need-cast-n Inv-loop μ-loop
-cast-n c = omega (arith, c .before .before .before .before .before .pre .1 .each (c .before .before .before .before .loop .l) (c .before .before .before .loop-test .taken))
+cast-n c =
+    let l = c .before .before .before in
+    omega (arith, l .before .before .pre .1 .each (l .before .loop .l) (omega arith))
 
 add-n : tie.Need-add-n Inv-loop μ-loop
-add-n c = omega (arith, c .before .before .before .before .loop .inv .few, c .before .before .before .before .before .pre .1 .each (c .before .before .before .before .loop .l) (c .before .before .before .loop-test .taken))
+add-n c =
+    let l = c .before .before .before in
+    omega (arith, l .before .loop .inv .few, l .before .before .pre .1 .each (l .before .loop .l) (omega arith))
 
 add-l : tie.Need-add-l Inv-loop μ-loop
 add-l c = omega arith
@@ -42,10 +46,12 @@ loop-less : tie.Need-loop-less Inv-loop μ-loop
 loop-less c = omega arith
 
 loop-again : tie.Need-loop-again Inv-loop μ-loop
-loop-again c = up-more (c .before .before .before .before .loop .inv) (c .before .before .before .loop-test .taken) (c .f32-to-f64-with-nan .ensures) (c .before .before .before .before .before .pre .1)
+loop-again c =
+    let l = c .before .before .before in
+    up-more (l .before .loop .inv) (omega arith) (c .f32-to-f64-with-nan .ensures) (l .before .before .pre .1)
 
 returns : tie.Need-returns Inv-loop μ-loop
-returns c = up-end (c .before .loop .inv) (c .loop-test .left)
+returns c = up-end (c .before .loop .inv) (omega arith)
 
 pub add-lanes-spec : {M : Type 1} → statement M
 add-lanes-spec =

@@ -55,8 +55,9 @@ block-count-requires c κs = omega arith
 
 loop-again : tie.Need-loop-again Inv-loop μ-loop
 loop-again c =
-    added-more (c .before .before .before .before .before .loop .inv) (c .before .before .before .before .loop-test .taken) (c .before .before .before .block-len .ensures) (c .block-count .ensures)
-    (c .before .f32-to-f64-with-nan .ensures) (c .before .before .block-sum .ensures)
+    let b = c .before .before in
+    added-more (b .before .before .before .loop .inv) (b .before .before .loop-test .taken) (b .before .block-len .ensures) (c .block-count .ensures)
+    (c .before .f32-to-f64-with-nan .ensures) (b .block-sum .ensures)
 
 add-n : tie.Need-add-n Inv-loop μ-loop
 add-n c = omega (arith, added-few (loop-again c))

@@ -37,7 +37,9 @@ loop-less c = omega arith
 loop-again : tie.Need-loop-again Inv-loop μ-loop
 loop-again c =
     let e = c .add-lanes .ensures in
-    eights-more (c .before .before .before .before .before .before .before .loop .inv) (c .before .before .before .before .before .before .before .before .before .before .pre .1) (c .before .before .before .before .before .before .loop-test .taken) refl (c .before .before .before .lanes .ensures) (e .0) (e .1)
+    let b = c .before .before .before in
+    let l = b .before .before .before in
+    eights-more (l .before .loop .inv) (l .before .before .before .before .pre .1) (l .loop-test .taken) refl (b .lanes .ensures) (e .0) (e .1)
 
 returns : tie.Need-returns Inv-loop μ-loop
 returns c = eights-end (c .before .loop .inv) (c .before .before .before .before .pre .1) (c .loop-test .left)
