@@ -94,10 +94,10 @@ fn block_sum(gate: &[f32], op: &[f32], a: usize, m: usize, t: f32, c: f32) -> f3
 
 // How many of them are admitted.
 fn block_count(gate: &[f32], op: &[f32], a: usize, m: usize, t: f32, c: f32) -> usize
-    requires { ⌜ (a + m ≤ length (now gate)) × (a + m ≤ length (now op)) ⌝ }
+    requires { ⌜ (a + m ≤ length (now gate)) × (a + m ≤ length (now op)) × (m ≤ 256) ⌝ }
     ensures { λ r. ⌜ r ≡ blockCount t c (now (gate .entry)) (now (op .entry)) a m ⌝ }
 {
-    let mut n: usize = 0;
+    let mut n: u32 = 0;
     let mut k: usize = 0;
     while k < m {
         let g = gate[a + k];
@@ -105,7 +105,7 @@ fn block_count(gate: &[f32], op: &[f32], a: usize, m: usize, t: f32, c: f32) -> 
         n = n + one(g, o, t, c);
         k += 1;
     }
-    n
+    n as usize
 }
 
 // The first m times eight blocks, eight at a time, so that no sum waits on one chain of additions.
@@ -170,7 +170,7 @@ fn add_window(
         let s = block[l];
         let n = count[l];
         block[l] = s + value(g, o, t, c);
-        count[l] = n + (one(g, o, t, c) as u32);
+        count[l] = n + one(g, o, t, c);
         l += 1;
     }
 }
@@ -201,7 +201,7 @@ fn value(g: f32, o: f32, t: f32, c: f32) -> f32
 }
 
 // What a window adds to its block's count.
-fn one(g: f32, o: f32, t: f32, c: f32) -> usize
+fn one(g: f32, o: f32, t: f32, c: f32) -> u32
     ensures { λ r. ⌜ (r ≡ cond (keeps t c g o) 1 0) × (r ≤ 1) ⌝ }
 {
     if (g < t) & (o <= c) { 1 } else { 0 }

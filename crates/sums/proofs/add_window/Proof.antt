@@ -68,9 +68,6 @@ element-write-block c = omega arith
 one-requires : tie.Need-one-requires Inv-loop μ-loop
 one-requires c κs = tt
 
-cast-count : tie.Need-cast-count Inv-loop μ-loop
-cast-count c = omega (arith, c .one .ensures .1)
-
 add-count : tie.Need-add-count Inv-loop μ-loop
 add-count c = omega (arith, c .one .ensures .1, step-few (c .before .before .before .before .before .before .before .loop .inv) (omega arith))
 
@@ -117,7 +114,6 @@ add-window-spec =
     mul-block
     element-write-block
     one-requires
-    cast-count
     add-count
     mul-count
     element-write-count

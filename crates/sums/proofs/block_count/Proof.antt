@@ -48,6 +48,9 @@ loop-less c = omega arith
 loop-again : tie.Need-loop-again Inv-loop μ-loop
 loop-again c = tallied-more _ (c .before .before .before .before .loop .inv) (c .before .before .before .loop-test .taken) (c .one .ensures .0)
 
+cast-result : tie.Need-cast-result Inv-loop μ-loop
+cast-result c = omega (arith, tallied-few _ (c .before .loop .inv), c .before .loop .inv .low)
+
 returns : tie.Need-returns Inv-loop μ-loop
 returns c = tallied-end _ (c .before .loop .inv) (c .loop-test .left)
 
@@ -69,4 +72,5 @@ block-count-spec =
     add-k
     loop-less
     loop-again
+    cast-result
     returns)
