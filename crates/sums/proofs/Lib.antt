@@ -1,4 +1,5 @@
 -- What the loops keep, and what follows from the definitions.
 pub mod Counts
 pub mod Sums
+pub mod Eights
 pub mod Starts

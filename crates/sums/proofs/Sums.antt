@@ -1,4 +1,4 @@
--- What the loops of `block` and `admitted` keep. Assumes nothing.
+-- What the loops of `block_sum` and `admitted` keep. Assumes nothing.
 use mathlib.Core.Path.{_≡_, refl, sym, ap, _∙_}
 use mathlib.Core.Bool.{Bool, cond}
 use mathlib.Core.List.{List}
@@ -13,7 +13,7 @@ use Rattle.quantile.specs.Rising.{at}
 use Rattle.sums.specs.Numbers.{zero32, zero64}
 use Rattle.sums.specs.Admitted.{threshold, cut, keeps, value, blockSum, blocksSum, blocks, admittedBy, admittedAt}
 use Rattle.sums.specs.declared.Total.{Total}
-use Rattle.sums.proofs.Counts.{tally-few, tally-add, Tallied, tallied-start, tallied-few, tallied-more, tallied-end}
+use Rattle.sums.proofs.Counts.{tally-few, tally-add}
 
 module _ (t c : Float) (g o : List Float) where
   abbrev pub kept : ℕ → Bool
@@ -21,28 +21,25 @@ module _ (t c : Float) (g o : List Float) where
 
 -- ---- one block: the first k of its windows
 
-pub record Summed (t c : Float) (g o : List Float) (a m : ℕ) (s : Float) (n k : ℕ) : Type 0 where
-  pub counted : Tallied (λ (i : ℕ). kept t c g o (a + i)) m n k
+pub record Summed (t c : Float) (g o : List Float) (a m : ℕ) (s : Float) (k : ℕ) : Type 0 where
+  pub low : k ≤ m
   pub sum : s ≡ blockSum t c g o a k
 
-pub summed-start : (t c : Float) (g o : List Float) (a m : ℕ) → Summed t c g o a m zero32 0 0
-summed-start t c g o a m = record { counted = tallied-start (λ (i : ℕ). kept t c g o (a + i)) m; sum = refl }
+pub summed-start : (t c : Float) (g o : List Float) (a m : ℕ) → Summed t c g o a m zero32 0
+summed-start t c g o a m = record { low = omega arith; sum = refl }
 
-module _ {t c : Float} {g o : List Float} {a m : ℕ} {s : Float} {n k : ℕ} (i : Summed t c g o a m s n k) where
-  pub summed-few : n ≤ k
-  summed-few = tallied-few (λ (j : ℕ). kept t c g o (a + j)) (i .counted)
+-- a window more, added to a block's sum
+pub sum-next : (t c : Float) (g o : List Float) (a k : ℕ) {s v : Float} → s ≡ blockSum t c g o a k → v ≡ value t c (at g (a + k)) (at o (a + k))
+    → add binary32 s v ≡ blockSum t c g o a (k + 1)
+sum-next t c g o a k {s} {v} p q =
+    ap (λ (x : Float). add binary32 x v) p ∙ ap (λ (x : Float). add binary32 (blockSum t c g o a k) x) q ∙ sym (ap (blockSum t c g o a) (add-one k))
 
-  pub summed-more : k < m → {v : Float} {d : ℕ} → v ≡ value t c (at g (a + k)) (at o (a + k)) → d ≡ cond (kept t c g o (a + k)) 1 0
-      → Summed t c g o a m (add binary32 s v) (n + d) (k + 1)
-  summed-more h {v} {d} p q =
-      record {
-        counted = tallied-more (λ (j : ℕ). kept t c g o (a + j)) (i .counted) h q;
-        sum = ap (λ (x : Float). add binary32 x v) (i .sum) ∙ ap (λ (x : Float). add binary32 (blockSum t c g o a k) x) p ∙ sym (ap (blockSum t c g o a) (add-one k));
-      }
+module _ {t c : Float} {g o : List Float} {a m : ℕ} {s : Float} {k : ℕ} (i : Summed t c g o a m s k) where
+  pub summed-more : k < m → {v : Float} → v ≡ value t c (at g (a + k)) (at o (a + k)) → Summed t c g o a m (add binary32 s v) (k + 1)
+  summed-more h p = record { low = omega arith; sum = sum-next t c g o a k (i .sum) p }
 
-  pub summed-end : m ≤ k → (n ≡ tally (λ (j : ℕ). kept t c g o (a + j)) m) × (s ≡ blockSum t c g o a m)
-  summed-end h =
-      (tallied-end (λ (j : ℕ). kept t c g o (a + j)) (i .counted) h, i .sum ∙ ap (blockSum t c g o a) (le-antisymm (i .counted .low) h))
+  pub summed-end : m ≤ k → s ≡ blockSum t c g o a m
+  summed-end h = i .sum ∙ ap (blockSum t c g o a) (le-antisymm (i .low) h)
 
 -- ---- the first i blocks
 

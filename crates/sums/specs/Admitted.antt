@@ -30,6 +30,10 @@ abbrev pub blockSum : Float → Float → List Float → List Float → ℕ → 
 blockSum t c g o a zero = zero32
 blockSum t c g o a (suc m) = add binary32 (blockSum t c g o a m) (value t c (at g (a + m)) (at o (a + m)))
 
+-- how many of them are admitted
+abbrev pub blockCount : Float → Float → List Float → List Float → ℕ → ℕ → ℕ
+blockCount t c g o a m = tally (λ (k : ℕ). keeps t c (at g (a + k)) (at o (a + k))) m
+
 -- the first i blocks, of 256 windows each but for the last, summed in f64
 abbrev pub blocksSum : Float → Float → List Float → List Float → ℕ → Float
 blocksSum t c g o zero = zero64

@@ -2,14 +2,15 @@
 // other: the gates of its windows and their squared outputs.
 ghost use mathlib.Core.Path.{_≡_};
 ghost use mathlib.Core.Bool.{cond};
-ghost use Prim.Native.Nat.{ℕ, _+_, _-_, _≤_, min};
+ghost use Prim.Native.Nat.{ℕ, _+_, _-_, _*_, _≤_, _<_, min};
 ghost use lib.ListN.{length};
 ghost use lib.Ieee.{binary64, add, le};
 ghost use Rattle.quantile.specs.Tally.{tally};
 ghost use Rattle.quantile.specs.Rising.{at};
 ghost use Rattle.sums.specs.Numbers as Numbers;
 ghost use Rattle.sums.specs.Admitted as Admitted;
-ghost use Rattle.sums.specs.Admitted.{keeps, blockSum, admittedAt};
+ghost use Rattle.sums.specs.Admitted.{keeps, blockSum, blockCount, blocksSum, admittedAt};
+ghost use Rattle.sums.specs.Lanes.{Lanes, Whole, lanesSum, lanesCount};
 ghost use Rattle.sums.specs.Start as Start;
 ghost use Rattle.sums.specs.Start.{meanQuiet};
 
@@ -21,6 +22,8 @@ const TRUNC: f64 = 4.0;
 pub const ROUNDING_OP_VAR: f64 = 400.0 / 12.0;
 // Windows of a block.
 const BLOCK: usize = 256;
+// Blocks summed side by side.
+const LANES: usize = 8;
 
 // How many windows are admitted, and their sum.
 pub struct Total {
@@ -36,15 +39,16 @@ pub fn admitted(gate: &[f32], op: &[f32], gate_var: f64, op_var: f64) -> Total
 {
     let t = threshold(gate_var);
     let c = cut(op_var);
-    let mut sum = 0.0f64;
-    let mut n: usize = 0;
-    let mut i: usize = 0;
+    let m = gate.len() / (LANES * BLOCK);
+    let k = side_by_side(gate, op, m, t, c);
+    let mut sum = k.sum;
+    let mut n = k.n;
+    let mut i = m * LANES;
     while i * BLOCK < gate.len() {
         let a = i * BLOCK;
-        let m = block_len(gate.len(), a);
-        let b = block(gate, op, a, m, t, c);
-        sum = sum + std::num::f32_to_f64_with_nan(b.sum);
-        n = n + b.n;
+        let len = block_len(gate.len(), a);
+        sum = sum + std::num::f32_to_f64_with_nan(block_sum(gate, op, a, len, t, c));
+        n = n + block_count(gate, op, a, len, t, c);
         i += 1;
     }
     Total { n: n, sum: sum }
@@ -72,29 +76,121 @@ fn block_len(len: usize, a: usize) -> usize
     if len - a < BLOCK { len - a } else { BLOCK }
 }
 
-// The same of one block.
-struct BlockTotal {
-    n: usize,
-    sum: f32,
-}
-
-// The m windows from window a on.
-fn block(gate: &[f32], op: &[f32], a: usize, m: usize, t: f32, c: f32) -> BlockTotal
+// The sum of the admitted ones of the m windows from window a on. Sum and count by a loop each have no jump a window.
+fn block_sum(gate: &[f32], op: &[f32], a: usize, m: usize, t: f32, c: f32) -> f32
     requires { ⌜ (a + m ≤ length (now gate)) × (a + m ≤ length (now op)) ⌝ }
-    ensures { λ r. ⌜ (r .n ≡ tally (λ (k : ℕ). keeps t c (at (now (gate .entry)) (a + k)) (at (now (op .entry)) (a + k))) m)
-        × (r .sum ≡ blockSum t c (now (gate .entry)) (now (op .entry)) a m) ⌝ }
+    ensures { λ r. ⌜ r ≡ blockSum t c (now (gate .entry)) (now (op .entry)) a m ⌝ }
 {
     let mut sum = 0.0f32;
-    let mut n: usize = 0;
     let mut k: usize = 0;
     while k < m {
         let g = gate[a + k];
         let o = op[a + k];
         sum = sum + value(g, o, t, c);
+        k += 1;
+    }
+    sum
+}
+
+// How many of them are admitted.
+fn block_count(gate: &[f32], op: &[f32], a: usize, m: usize, t: f32, c: f32) -> usize
+    requires { ⌜ (a + m ≤ length (now gate)) × (a + m ≤ length (now op)) × (m ≤ 256) ⌝ }
+    ensures { λ r. ⌜ r ≡ blockCount t c (now (gate .entry)) (now (op .entry)) a m ⌝ }
+{
+    let mut n: u32 = 0;
+    let mut k: usize = 0;
+    while k < m {
+        let g = gate[a + k];
+        let o = op[a + k];
         n = n + one(g, o, t, c);
         k += 1;
     }
-    BlockTotal { n: n, sum: sum }
+    n as usize
+}
+
+// The first m times eight blocks, eight at a time, so that no sum waits on one chain of additions.
+fn side_by_side(gate: &[f32], op: &[f32], m: usize, t: f32, c: f32) -> Total
+    requires { ⌜ (length (now gate) ≡ length (now op)) × (m * 2048 ≤ length (now gate)) ⌝ }
+    ensures { λ r. ⌜ (r .n ≡ tally (λ (k : ℕ). keeps t c (at (now (gate .entry)) k) (at (now (op .entry)) k)) (m * 2048))
+        × (r .sum ≡ blocksSum t c (now (gate .entry)) (now (op .entry)) (m * 8)) ⌝ }
+{
+    let mut k = Total { n: 0, sum: 0.0 };
+    let mut j: usize = 0;
+    while j < m {
+        let a = j * (LANES * BLOCK);
+        let mut block = [0.0f32; 8];
+        let mut count = [0u32; 8];
+        lanes(gate, op, a, t, c, &mut block, &mut count);
+        k = add_lanes(k, &block, &count);
+        j += 1;
+    }
+    k
+}
+
+// The eight blocks from window a on, a lane each.
+fn lanes(
+    gate: &[f32],
+    op: &[f32],
+    a: usize,
+    t: f32,
+    c: f32,
+    block: &mut [f32; 8],
+    count: &mut [u32; 8],
+)
+    requires { ⌜ (a + 2048 ≤ length (now gate)) × (a + 2048 ≤ length (now op))
+        × Lanes t c (now gate) (now op) a 0 (now block) (now count) ⌝ }
+    ensures { λ r. ⌜ Lanes t c (now (gate .entry)) (now (op .entry)) a 256 (now (block .exit)) (now (count .exit)) ⌝ }
+{
+    let mut i: usize = 0;
+    while i < BLOCK {
+        add_window(gate, op, a, i, t, c, block, count);
+        i += 1;
+    }
+}
+
+// Window i of each of the eight blocks.
+fn add_window(
+    gate: &[f32],
+    op: &[f32],
+    a: usize,
+    i: usize,
+    t: f32,
+    c: f32,
+    block: &mut [f32; 8],
+    count: &mut [u32; 8],
+)
+    requires { ⌜ (a + 2048 ≤ length (now gate)) × (a + 2048 ≤ length (now op)) × (i < 256)
+        × Lanes t c (now gate) (now op) a i (now block) (now count) ⌝ }
+    ensures { λ r. ⌜ Lanes t c (now (gate .entry)) (now (op .entry)) a (i + 1) (now (block .exit)) (now (count .exit)) ⌝ }
+{
+    let mut l: usize = 0;
+    while l < LANES {
+        let g = gate[a + l * BLOCK + i];
+        let o = op[a + l * BLOCK + i];
+        let s = block[l];
+        let n = count[l];
+        block[l] = s + value(g, o, t, c);
+        count[l] = n + one(g, o, t, c);
+        l += 1;
+    }
+}
+
+// k and the eight lanes, in block order.
+fn add_lanes(k: Total, block: &[f32; 8], count: &[u32; 8]) -> Total
+    requires { ⌜ (k .n < 9223372036854775808) × Whole (now count) ⌝ }
+    ensures { λ r. ⌜ (r .n ≡ lanesCount (now (count .entry)) (k .n) 8) × (r .sum ≡ lanesSum (now (block .entry)) (k .sum) 8) ⌝ }
+{
+    let mut n = k.n;
+    let mut sum = k.sum;
+    let mut l: usize = 0;
+    while l < LANES {
+        let s = block[l];
+        let d = count[l];
+        sum = sum + std::num::f32_to_f64_with_nan(s);
+        n = n + (d as usize);
+        l += 1;
+    }
+    Total { n: n, sum: sum }
 }
 
 // What a window adds to its block's sum.
@@ -105,7 +201,7 @@ fn value(g: f32, o: f32, t: f32, c: f32) -> f32
 }
 
 // What a window adds to its block's count.
-fn one(g: f32, o: f32, t: f32, c: f32) -> usize
+fn one(g: f32, o: f32, t: f32, c: f32) -> u32
     ensures { λ r. ⌜ (r ≡ cond (keeps t c g o) 1 0) × (r ≤ 1) ⌝ }
 {
     if (g < t) & (o <= c) { 1 } else { 0 }

@@ -1,18 +1,19 @@
--- `block` meets its contract. After k windows sum and count are those of the first k. Assumes nothing.
-use Prim.Native.Nat.{_-_}
+-- `block_count` meets its contract. After k windows the count is that of the first k. Assumes nothing.
+use Prim.Native.Nat.{ℕ, _+_, _-_}
 use native.Mathlib.Omega.{arith}
-use Rattle.sums.proofs.Sums.{Summed, summed-start, summed-few, summed-more, summed-end}
-use Rattle.sums.proofs.block.Statement.{statement}
-use Rattle.sums.proofs.block.Tie as tie
+use Rattle.sums.proofs.Counts.{Tallied, tallied-start, tallied-few, tallied-more, tallied-end}
+use Rattle.sums.proofs.Sums.{kept}
+use Rattle.sums.proofs.block_count.Statement.{statement}
+use Rattle.sums.proofs.block_count.Tie as tie
 
 abbrev Inv-loop : tie.InvT-loop
-Inv-loop gate op a m t c sum₀ n₀ k₀ sum n k = Summed t c gate op a m sum n k
+Inv-loop gate op a m t c n₀ k₀ n k = Tallied (λ (i : ℕ). kept t c gate op (a + i)) m n k
 
 abbrev μ-loop : tie.MeasureT-loop
-μ-loop gate op a m t c sum₀ n₀ k₀ sum n k = m - k
+μ-loop gate op a m t c n₀ k₀ n k = m - k
 
 loop-holds : tie.Need-loop-holds Inv-loop μ-loop
-loop-holds c = summed-start _ _ _ _ _ _
+loop-holds c = tallied-start _ _
 
 add-g : tie.Need-add-g Inv-loop μ-loop
 add-g c = omega arith
@@ -32,14 +33,11 @@ mul-o c = omega arith
 shared-slice-read-o : tie.Need-shared-slice-read-o Inv-loop μ-loop
 shared-slice-read-o c = omega arith
 
-value-requires : tie.Need-value-requires Inv-loop μ-loop
-value-requires c κs = tt
-
 one-requires : tie.Need-one-requires Inv-loop μ-loop
 one-requires c κs = tt
 
 add-n : tie.Need-add-n Inv-loop μ-loop
-add-n c = omega (arith, summed-few (c .before .before .before .before .before .loop .inv), c .one .ensures .1)
+add-n c = omega (arith, tallied-few _ (c .before .before .before .before .loop .inv), c .one .ensures .1)
 
 add-k : tie.Need-add-k Inv-loop μ-loop
 add-k c = omega arith
@@ -48,13 +46,16 @@ loop-less : tie.Need-loop-less Inv-loop μ-loop
 loop-less c = omega arith
 
 loop-again : tie.Need-loop-again Inv-loop μ-loop
-loop-again c = summed-more (c .before .before .before .before .before .loop .inv) (c .before .before .before .before .loop-test .taken) (c .before .value .ensures) (c .one .ensures .0)
+loop-again c = tallied-more _ (c .before .before .before .before .loop .inv) (c .before .before .before .loop-test .taken) (c .one .ensures .0)
+
+cast-result : tie.Need-cast-result Inv-loop μ-loop
+cast-result c = omega (arith, tallied-few _ (c .before .loop .inv), c .before .loop .inv .low)
 
 returns : tie.Need-returns Inv-loop μ-loop
-returns c = summed-end (c .before .loop .inv) (c .loop-test .left)
+returns c = tallied-end _ (c .before .loop .inv) (c .loop-test .left)
 
-pub block-spec : {M : Type 1} → statement M
-block-spec =
+pub block-count-spec : {M : Type 1} → statement M
+block-count-spec =
     tie.close
     (tie.spec
     Inv-loop
@@ -66,10 +67,10 @@ block-spec =
     add-o
     mul-o
     shared-slice-read-o
-    value-requires
     one-requires
     add-n
     add-k
     loop-less
     loop-again
+    cast-result
     returns)
