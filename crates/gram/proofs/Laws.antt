@@ -11,7 +11,7 @@ use Rattle.ieee.specs.Order.{finite}
 use Rattle.refine.specs.Covariance.{covariance, judged}
 use Rattle.refine.specs.declared.PositionCovariance.{PositionCovariance}
 use Rattle.refine.specs.declared.Judged.the-variants.{Covariance}
-use Rattle.gram.specs.Gram.{plusZero, product, along, partial, FourSums, total, gram}
+use Rattle.gram.specs.Gram.{plusZero, product, along, partial, total, gram}
 use Rattle.gram.proofs.Sums.{total-is, gram-is}
 
 abbrev pub Zeros : List Float → Type 0
@@ -46,11 +46,10 @@ module _ (a b : List Float) (za : Zeros a) (zb : Zeros b) (e : length a ≡ leng
   rest-zero = along-zero a b 1 (length a / 4 * 4) (length a % 4) (λ j i. products (j * 1 + length a / 4 * 4) (omega arith))
 
   pub total-zero : total a b ≡ plusZero
-  total-zero = sym (total-is a b fours (sym rest-zero) rounded-zero)
-    where
-      fours : FourSums a b (length a / 4) plusZero plusZero plusZero plusZero
-      fours =
-          record { zeroth = sym (partial-zero 0 (omega arith)); first = sym (partial-zero 1 (omega arith)); second = sym (partial-zero 2 (omega arith)); third = sym (partial-zero 3 (omega arith)) }
+  total-zero =
+      sym
+      (total-is a b (length a) refl (sym (partial-zero 0 (omega arith))) (sym (partial-zero 1 (omega arith))) (sym (partial-zero 2 (omega arith))) (sym (partial-zero 3 (omega arith)))
+      (sym rest-zero) rounded-zero)
 
 abbrev pub zeros : PositionCovariance
 zeros = covariance plusZero plusZero plusZero

@@ -1,4 +1,5 @@
 -- Laws on sums of products.
 pub mod Sums
+pub mod Nans
 pub mod Laws
 pub mod Examples

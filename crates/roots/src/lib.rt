@@ -32,7 +32,7 @@ fn root(m: u64, n: u64) -> u64
 
 // 24 digits of about the square root of the number with the pattern b. `root24` tests them, so
 // nothing else is said of them. The pattern's half, turned over, is about that of 1 / sqrt(x), and
-// each step doubles the digits that are right.
+// each step doubles the digits that are right. Digits that round up past the last are those of a power of two.
 fn guess(b: u64) -> u64
     requires { ⌜ b < 0x7ff0_0000_0000_0000 ⌝ }
     ensures { λ r. ⌜ (2 ^ 23 ≤ r) × (r ≤ 2 ^ 24) ⌝ }
@@ -47,7 +47,7 @@ fn guess(b: u64) -> u64
     if g != g {
         return 0x80_0000;
     }
-    0x80_0000 + (f64::to_bits(g) % 0x10_0000_0000_0000 + 0x1000_0000) / 0x2000_0000
+    0x80_0000 + (f64::to_bits(g) % 0x10_0000_0000_0000 + 0x1000_0000) / 0x2000_0000 % 0x80_0000
 }
 
 // As root(m, 24), from a guess q at it: q is the nearest where q * q - q < N <= q * q + q.
@@ -114,7 +114,7 @@ pub fn sqrt64(x: f64) -> f64
     f64::from_bits((h + 485) * 0x10_0000_0000_0000 + root(m, 53))
 }
 
-// f32::sqrt, as sqrt64 of x as an f64, with 24 digits.
+// f32::sqrt, as sqrt64 of x as an f64, with 24 digits. 1, the factor of a noise that doesn't grow, is its own root.
 pub fn sqrt32(x: f32) -> f32
     ensures { λ r. ⌜ r ≡ sqrt binary32 x ⌝ }
 {
@@ -129,6 +129,9 @@ pub fn sqrt32(x: f32) -> f32
     }
     let b = f64::to_bits(x as f64);
     if b >= 0x7ff0_0000_0000_0000 {
+        return x;
+    }
+    if b == 0x3ff0_0000_0000_0000 {
         return x;
     }
     let v = scaled(b);

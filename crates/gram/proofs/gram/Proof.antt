@@ -1,20 +1,37 @@
--- Three totals, judged together. Assumes nothing.
-use mathlib.Core.Path.{ap, _∙_}
+-- A NaN is refused; without one, three totals of one loop's sums, judged together. Assumes nothing.
+use mathlib.Core.Path.{sym, ap, _∙_}
 use denote.Ref.{now}
-use borrow.Author.Needs.{needs}
 use Rattle.refine.specs.Covariance.{judged}
-use Rattle.gram.proofs.Sums.{gram-is}
+use Rattle.gram.specs.Gram.{Plain}
+use Rattle.gram.proofs.Sums.{sums-are}
+use Rattle.gram.proofs.Nans.{refused}
+use borrow.Author.Needs.{needs}
 use Rattle.gram.proofs.gram.Statement.{statement}
 use Rattle.gram.proofs.gram.Tie as tie
 
-total-requires : tie.Need-total-requires
-total-requires c κs = search needs
+plain : (c : tie.Else1) → let a = c .before .before .before .before .args in Plain (now (a .gx)) (now (a .gy))
+plain c = record { even = c .before .before .before .before .pre; plain = sym (c .before .any-nan .ensures) ∙ c .if1 .left }
 
-total-requires-2 : tie.Need-total-requires-2
-total-requires-2 c κs = search needs
+any-nan-requires : tie.Need-any-nan-requires
+any-nan-requires c κs = search needs
 
-total-requires-3 : tie.Need-total-requires-3
-total-requires-3 c κs = search needs
+returns : tie.Need-returns
+returns c = let s = c .before .before .before .before in refused (now (s .args .gx)) (now (s .args .gy)) (s .pre) (sym (c .before .any-nan .ensures) ∙ c .if1 .taken)
+
+partials-requires : tie.Need-partials-requires
+partials-requires c κs = plain c
+
+with-rest-requires : tie.Need-with-rest-requires
+with-rest-requires c κs = plain (c .before)
+
+joined-requires : tie.Need-joined-requires
+joined-requires c κs = search needs
+
+joined-requires-2 : tie.Need-joined-requires-2
+joined-requires-2 c κs = search needs
+
+joined-requires-3 : tie.Need-joined-requires-3
+joined-requires-3 c κs = search needs
 
 new-requires : tie.Need-new-requires
 new-requires c κs = search needs
@@ -22,18 +39,25 @@ new-requires c κs = search needs
 finite-requires : tie.Need-finite-requires
 finite-requires c κs = search needs
 
-returns : tie.Need-returns
-returns c =
-    let n = c .before in let t = n .before in let a = t .before .before .before .before .before .args in
-    c .finite .ensures ∙ ap judged (gram-is (now (a .gx)) (now (a .gy)) (t .before .before .total .ensures) (t .before .total2 .ensures) (t .total3 .ensures) (n .new .ensures))
+returns-2 : tie.Need-returns-2
+returns-2 c =
+    let n = c .before in let j = n .before in let w = j .before .before .before in let s = w .before .before .before .before .before .before in
+    c .finite .ensures
+    ∙ ap judged
+    (sums-are (now (s .args .gx)) (now (s .args .gy)) (s .pre) (w .before .partials .ensures) (w .with-rest .ensures)
+    (j .before .before .joined .ensures) (j .before .joined2 .ensures) (j .joined3 .ensures) (n .new .ensures))
 
 pub gram-spec : {M : Type 1} → statement M
 gram-spec =
     tie.close
     (tie.spec
-    total-requires
-    total-requires-2
-    total-requires-3
+    any-nan-requires
+    returns
+    partials-requires
+    with-rest-requires
+    joined-requires
+    joined-requires-2
+    joined-requires-3
     new-requires
     finite-requires
-    returns)
+    returns-2)

@@ -1,52 +1,70 @@
--- Each turn takes four products to four sums. Assumes nothing.
-use Prim.Native.Nat.{_≤_, _-_}
+-- Each turn takes four gradients to four sums. Assumes nothing.
+use Prim.Native.Nat.{_^_, _<_, _≤_, _-_}
+use lib.ListN.{length}
+use denote.Ref.{now}
 use native.Mathlib.Omega.{arith}
 use Rattle.gram.specs.Gram.{FourSums}
 use Rattle.gram.proofs.Sums.{fours-end, fours-start, fours-more}
+use borrow.Author.Needs.{needs}
 use Rattle.gram.proofs.partials.Statement.{statement}
 use Rattle.gram.proofs.partials.Tie as tie
 
 abbrev Inv-loop : tie.InvT-loop
-Inv-loop a b fours p0₀ p1₀ p2₀ p3₀ k₀ p0 p1 p2 p3 k = (k ≤ fours) × FourSums a b k p0 p1 p2 p3
+Inv-loop gx gy fours p0₀ p1₀ p2₀ p3₀ k₀ p0 p1 p2 p3 k = (k ≤ fours) × FourSums gx gy k p0 p1 p2 p3
 
 abbrev μ-loop : tie.MeasureT-loop
-μ-loop a b fours p0₀ p1₀ p2₀ p3₀ k₀ p0 p1 p2 p3 k = fours - k
+μ-loop gx gy fours p0₀ p1₀ p2₀ p3₀ k₀ p0 p1 p2 p3 k = fours - k
+
+long : (c : tie.Start Inv-loop μ-loop) → length (now (c .args .gx)) < 2 ^ 64
+long c = omega arith
+
+none-requires : tie.Need-none-requires Inv-loop μ-loop
+none-requires c κs = search needs
+
+none-requires-2 : tie.Need-none-requires-2 Inv-loop μ-loop
+none-requires-2 c κs = search needs
+
+none-requires-3 : tie.Need-none-requires-3 Inv-loop μ-loop
+none-requires-3 c κs = search needs
+
+none-requires-4 : tie.Need-none-requires-4 Inv-loop μ-loop
+none-requires-4 c κs = search needs
 
 loop-holds : tie.Need-loop-holds Inv-loop μ-loop
-loop-holds c = (omega arith, fours-start _ _)
+loop-holds c = (omega arith, fours-start _ _ (c .before .before .before .none .ensures) (c .before .before .none2 .ensures) (c .before .none3 .ensures) (c .none4 .ensures))
 
 mul-i : tie.Need-mul-i Inv-loop μ-loop
 mul-i c = omega arith
 
-product-requires : tie.Need-product-requires Inv-loop μ-loop
-product-requires c κs = (omega arith, omega arith)
+plus-requires : tie.Need-plus-requires Inv-loop μ-loop
+plus-requires c κs = (c .before .before .before .before .before .before .before .before .pre, omega arith)
 
-add-product : tie.Need-add-product Inv-loop μ-loop
-add-product c = omega arith
+add-plus : tie.Need-add-plus Inv-loop μ-loop
+add-plus c = omega arith
 
-product-requires-2 : tie.Need-product-requires-2 Inv-loop μ-loop
-product-requires-2 c κs = (omega arith, omega arith)
+plus-requires-2 : tie.Need-plus-requires-2 Inv-loop μ-loop
+plus-requires-2 c κs = (c .before .before .before .before .before .before .before .before .before .pre, omega arith)
 
-add-product-2 : tie.Need-add-product-2 Inv-loop μ-loop
-add-product-2 c = omega arith
+add-plus-2 : tie.Need-add-plus-2 Inv-loop μ-loop
+add-plus-2 c = omega arith
 
-product-requires-3 : tie.Need-product-requires-3 Inv-loop μ-loop
-product-requires-3 c κs = (omega arith, omega arith)
+plus-requires-3 : tie.Need-plus-requires-3 Inv-loop μ-loop
+plus-requires-3 c κs = (c .before .before .before .before .before .before .before .before .before .before .pre, omega arith)
 
-add-product-3 : tie.Need-add-product-3 Inv-loop μ-loop
-add-product-3 c = omega arith
+add-plus-3 : tie.Need-add-plus-3 Inv-loop μ-loop
+add-plus-3 c = omega (arith, long (c .before .before .before .before .before .before .before .before .before .before .before))
 
-product-requires-4 : tie.Need-product-requires-4 Inv-loop μ-loop
-product-requires-4 c κs = (omega arith, omega arith)
+plus-requires-4 : tie.Need-plus-requires-4 Inv-loop μ-loop
+plus-requires-4 c κs = (c .before .before .before .before .before .before .before .before .before .before .before .pre, omega arith)
 
 add-k : tie.Need-add-k Inv-loop μ-loop
-add-k c = omega arith
+add-k c = omega (arith, long (c .before .before .before .before .before .before .before .before .before .before .before .before))
 
 loop-less : tie.Need-loop-less Inv-loop μ-loop
 loop-less c = omega arith
 
 loop-again : tie.Need-loop-again Inv-loop μ-loop
-loop-again c = let t = c .before .before .before in (omega arith, fours-more _ _ (t .before .before .loop .inv .1) (t .product .ensures) (c .before .before .product2 .ensures) (c .before .product3 .ensures) (c .product4 .ensures))
+loop-again c = let t = c .before .before .before in (omega arith, fours-more _ _ (t .before .before .loop .inv .1) (t .plus .ensures) (c .before .before .plus2 .ensures) (c .before .plus3 .ensures) (c .plus4 .ensures))
 
 returns : tie.Need-returns Inv-loop μ-loop
 returns c = fours-end _ _ (c .before .loop .inv .1) (c .before .loop .inv .0) (c .loop-test .left)
@@ -57,15 +75,19 @@ partials-spec =
     (tie.spec
     Inv-loop
     μ-loop
+    none-requires
+    none-requires-2
+    none-requires-3
+    none-requires-4
     loop-holds
     mul-i
-    product-requires
-    add-product
-    product-requires-2
-    add-product-2
-    product-requires-3
-    add-product-3
-    product-requires-4
+    plus-requires
+    add-plus
+    plus-requires-2
+    add-plus-2
+    plus-requires-3
+    add-plus-3
+    plus-requires-4
     add-k
     loop-less
     loop-again

@@ -1,31 +1,30 @@
--- Each turn takes the next product to the one sum. Assumes nothing.
-use mathlib.Core.Path.{_≡_, refl}
+-- Each turn takes the next gradient to the one sum. Assumes nothing.
 use Prim.Native.Nat.{_+_, _*_, _/_, _%_, _≤_, _-_}
 use native.Mathlib.Omega.{arith}
 use lib.ListN.{length}
 use denote.Ref.{now}
-use Rattle.gram.specs.Gram.{along}
-use Rattle.gram.proofs.Sums.{along-more, along-end}
+use Rattle.gram.specs.Gram.{Added}
+use Rattle.gram.proofs.Sums.{added-start, added-more, added-end}
 use Rattle.gram.proofs.with_rest.Statement.{statement}
 use Rattle.gram.proofs.with_rest.Tie as tie
 
 abbrev Inv-loop : tie.InvT-loop
-Inv-loop a b s first rest sum₀ k₀ sum k = (k ≤ rest) × (sum ≡ along a b 1 first s k)
+Inv-loop gx gy first rest sums₀ k₀ sums k = (k ≤ rest) × Added gx gy 1 first sums₀ k sums
 
 abbrev μ-loop : tie.MeasureT-loop
-μ-loop a b s first rest sum₀ k₀ sum k = rest - k
+μ-loop gx gy first rest sums₀ k₀ sums k = rest - k
 
 mul-first : tie.Need-mul-first Inv-loop μ-loop
 mul-first c = omega arith
 
 loop-holds : tie.Need-loop-holds Inv-loop μ-loop
-loop-holds c = (omega arith, refl)
+loop-holds c = (omega arith, added-start _ _ _ _ _)
 
 add-i : tie.Need-add-i Inv-loop μ-loop
 add-i c = omega arith
 
-product-requires : tie.Need-product-requires Inv-loop μ-loop
-product-requires c κs = (omega arith, omega arith)
+plus-requires : tie.Need-plus-requires Inv-loop μ-loop
+plus-requires c κs = (c .before .before .before .before .pre, omega arith)
 
 add-k : tie.Need-add-k Inv-loop μ-loop
 add-k c = omega arith
@@ -35,13 +34,11 @@ loop-less c = omega arith
 
 loop-again : tie.Need-loop-again Inv-loop μ-loop
 loop-again c =
-    let l = c .before .before in let s = l .before .before .before in let n = length (now (s .args .a)) in
-    (omega arith, along-more _ _ 1 (n / 4 * 4) (s .args .s) (l .loop .k) (n / 4 * 4 + l .loop .k) (l .loop .inv .1) (omega arith) (c .product .ensures))
+    let l = c .before .before in let s = l .before .before .before in let n = length (now (s .args .gx)) in
+    (omega arith, added-more _ _ 1 (n / 4 * 4) (s .args .s) (l .loop .k) (n / 4 * 4 + l .loop .k) (l .loop .inv .1) (omega arith) (c .plus .ensures))
 
 returns : tie.Need-returns Inv-loop μ-loop
-returns c =
-    let l = c .before in let s = l .before .before .before in let n = length (now (s .args .a)) in
-    along-end _ _ 1 (n / 4 * 4) (s .args .s) (l .loop .k) (n % 4) (l .loop .inv .1) (l .loop .inv .0) (c .loop-test .left)
+returns c = added-end _ _ 1 _ _ (c .before .loop .inv .1) (c .before .loop .inv .0) (c .loop-test .left)
 
 pub with-rest-spec : {M : Type 1} → statement M
 with-rest-spec =
@@ -52,7 +49,7 @@ with-rest-spec =
     mul-first
     loop-holds
     add-i
-    product-requires
+    plus-requires
     add-k
     loop-less
     loop-again
