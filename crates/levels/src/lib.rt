@@ -20,7 +20,10 @@ fn highest(values: &[f32; 81]) -> f32
     let mut most = -1.0f32 / 0.0;
     let mut m = 0;
     while m < 81 {
-        most = float::max32(most, values[m]);
+        let v = values[m];
+        if most < v {
+            most = v;
+        }
         m += 1;
     }
     most
@@ -33,7 +36,10 @@ fn lowest(values: &[f32; 81]) -> f32
     let mut least = 1.0f32 / 0.0;
     let mut m = 0;
     while m < 81 {
-        least = float::min32(least, values[m]);
+        let v = values[m];
+        if v < least {
+            least = v;
+        }
         m += 1;
     }
     least
@@ -104,8 +110,8 @@ fn insert(top: &mut [f32; 8], v: f32)
     requires { ⌜ (length (now top) ≡ 8) × AllClear (now top) × T (clear v) ⌝ }
     ensures { λ _. ⌜ now (top .exit) ≡ drop 1 (inserted v (now (top .entry))) ⌝ }
 {
-    let least = top[0];
-    if v < least {
+    let first = top[0];
+    if v < first {
         return;
     }
     let mut j = 0;

@@ -12,10 +12,10 @@ use Rattle.levels.proofs.insert.Statement.{statement}
 use Rattle.levels.proofs.insert.Tie as tie
 
 abbrev Inv-loop : tie.InvT-loop
-Inv-loop top₀ v least j₀ top j = Climbing top₀ v j top
+Inv-loop top₀ v first j₀ top j = Climbing top₀ v j top
 
 abbrev μ-loop : tie.MeasureT-loop
-μ-loop top₀ v least j₀ top j = 7 - j
+μ-loop top₀ v first j₀ top j = 7 - j
 
 -- v and the numbers here are clear, so `<` is their order
 order : (s : tie.Start Inv-loop μ-loop) (k : ℕ) → k < 8 → totalLess (s .args .v) (getD (now (s .args .top)) k nan) ≡ lt (s .args .v) (getD (now (s .args .top)) k nan)
@@ -26,8 +26,8 @@ order-at d =
     subst (λ (x : Float). totalLess (d .before .before .before .before .args .v) x ≡ lt (d .before .before .before .before .args .v) x) (sym (climb-next (d .before .loop .inv) (d .loop-test .taken)))
     (order (d .before .before .before .before) (d .before .loop .j + 1) (omega arith))
 
-element-copy-out-least : tie.Need-element-copy-out-least Inv-loop μ-loop
-element-copy-out-least c = omega arith
+element-copy-out-first : tie.Need-element-copy-out-first Inv-loop μ-loop
+element-copy-out-first c = omega arith
 
 returns : tie.Need-returns Inv-loop μ-loop
 returns c =
@@ -88,7 +88,7 @@ insert-spec =
     (tie.spec
     Inv-loop
     μ-loop
-    element-copy-out-least
+    element-copy-out-first
     returns
     loop-holds
     add-x
