@@ -93,8 +93,7 @@ impl PixelTile {
         requires { ⌜ ((k : ℕ) → k < 289 → Upto 255 (getD (self .samples) k nan)) ⌝ }
         ensures { λ r. ⌜ answer r ≡ edgeOf (smoothed (read (self .samples))) ⌝ }
     {
-        let samples = self.samples;
-        let rows = disk::down(&samples);
+        let rows = disk::down(&self.samples);
         let smooth = disk::across(&rows);
         let on_disk = disk::gradients(&smooth);
         let g = levels::steepness(&on_disk);
