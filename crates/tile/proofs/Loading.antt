@@ -6,10 +6,11 @@ use Prim.Native.Nat.{ℕ, zero, suc, _+_, _*_, _-_, _/_, _%_, _≤_, _<_}
 use native.Mathlib.Omega.{arith}
 use borrow.Author.Tests.{eq-eqb, ne-eqb}
 use lib.ListN.{length, getD, drop, replicate, drop-of-length-le}
-use lib.IntN.{ℤ, pos, natAbs, _+ℤ_, _-ℤ_}
+use lib.IntN.{ℤ, pos, negsuc, sucℤ, natAbs, _+ℤ_, _-ℤ_, sucℤ-+ℤ, +ℤ-idl}
 use lib.Ieee.{Float, binary32, ofBits}
 use Rattle.laws.specs.Lists.{from, joined}
 use Rattle.laws.proofs.Fill.{length-from, Rows, rows-put, rows-end}
+use Rattle.laws.proofs.Ring.{ring, v, k as lit, _⊕_, _⊖_}
 use Rattle.laws.proofs.Machine.{held}
 use Rattle.imageview.specs.Sample.{clamped, pixel, sample}
 use Rattle.imageview.proofs.Nearest.{clamped-most, in-image}
@@ -18,7 +19,7 @@ use Rattle.levels.proofs.Constants.{zero-is}
 use Rattle.levels.proofs.Folds.{getD-from}
 use Rattle.disk.specs.Rows.{inRows}
 use Rattle.tile.specs.Tile.{tile}
-use Rattle.tile.specs.Laid.{laid, picked}
+use Rattle.tile.specs.Laid.{laid, picked, run}
 
 from-same : {A : Type 0} (f g : ℕ → A) (k n : ℕ) → ((i : ℕ) → i < k + n → f i ≡ g i) → from f k n ≡ from g k n
 from-same f g k zero h = refl
@@ -48,6 +49,54 @@ places-held most c o p q = λ t. from (near (p t) (q t) most) 0 17
 
 pub size-held : (c : ℤ) → held c ≡ c → natAbs c ≤ 1000000 → natAbs (held c) ≤ 1000000
 size-held c e h = subst (λ (z : ℤ). natAbs z ≤ 1000000) (sym e) h
+
+-- the next place is at most one further
+clamped-step : (z : ℤ) (most : ℕ) → clamped (sucℤ z) most ≤ clamped z most + 1
+unfolding clamped
+clamped-step (pos n) most = omega arith
+clamped-step (negsuc zero) most = omega arith
+clamped-step (negsuc (suc n)) most = omega arith
+
+near-step : (c o : ℤ) (most i : ℕ) → near c o most (i + 1) ≤ near c o most i + 1
+near-step c o most i =
+    subst (λ (z : ℤ). clamped z most ≤ near c o most i + 1) (up ((c +ℤ (pos i -ℤ pos 8)) +ℤ o) ∙ ring (c ∷ o ∷ pos i ∷ []) (lit (pos 1) ⊕ ((v 0 ⊕ (v 2 ⊖ lit (pos 8))) ⊕ v 1)) ((v 0 ⊕ ((v 2 ⊕ lit (pos 1)) ⊖ lit (pos 8))) ⊕ v 1) tt) (clamped-step ((c +ℤ (pos i -ℤ pos 8)) +ℤ o) most)
+  where
+    up : (z : ℤ) → sucℤ z ≡ pos 1 +ℤ z
+    up z = sym (sucℤ-+ℤ (pos 0) z ∙ ap sucℤ (+ℤ-idl z))
+
+near-steps : (c o : ℤ) (most i d : ℕ) → near c o most (i + d) ≤ near c o most i + d
+near-steps c o most i zero = subst (λ (k : ℕ). near c o most k ≤ near c o most i + 0) (go i) (omega arith)
+  where
+    go : (i : ℕ) → i ≡ i + 0
+    go i = omega arith
+near-steps c o most i (suc d) =
+    subst (λ (k : ℕ). near c o most k ≤ near c o most i + suc d) (go i d) (further (near c o most (i + d + 1)) (near c o most (i + d)) (near c o most i) (near-step c o most (i + d)) (near-steps c o most i d))
+  where
+    go : (i d : ℕ) → i + d + 1 ≡ i + suc d
+    go i d = omega arith
+
+    further : (a b n : ℕ) → a ≤ b + 1 → b ≤ n + d → a ≤ n + suc d
+    further a b n p q = omega arith
+
+-- where the last place is 16 past the first, each is one past the one before
+near-run : (c o : ℤ) (most : ℕ) → near c o most 16 ≡ near c o most 0 + 16 → (i : ℕ) → i < 17 → near c o most i ≡ near c o most 0 + i
+near-run c o most e i h =
+    go (near c o most 0) (near c o most i) (near c o most 16) e (upto i (near-steps c o most 0 i)) (rest (near-steps c o most i (16 - i)))
+  where
+    upto : (i : ℕ) → near c o most (0 + i) ≤ near c o most 0 + i → near c o most i ≤ near c o most 0 + i
+    upto i p = subst (λ (k : ℕ). near c o most k ≤ near c o most 0 + i) (zero-more i) p
+      where
+        zero-more : (i : ℕ) → 0 + i ≡ i
+        zero-more i = omega arith
+
+    rest : near c o most (i + (16 - i)) ≤ near c o most i + (16 - i) → near c o most 16 ≤ near c o most i + (16 - i)
+    rest p = subst (λ (k : ℕ). near c o most k ≤ near c o most i + (16 - i)) (whole-run i h) p
+      where
+        whole-run : (i : ℕ) → i < 17 → i + (16 - i) ≡ 16
+        whole-run i h = omega arith
+
+    go : (a b c : ℕ) → c ≡ a + 16 → b ≤ a + i → c ≤ b + (16 - i) → b ≡ a + i
+    go a b c e p q = omega arith
 
 -- row j as it is laid
 abbrev pub rowOf : List ℕ → ℕ → List ℕ → List ℕ → ℕ → List Float
@@ -96,6 +145,21 @@ module _ (l : List ℕ) (w h : ℕ) (origin centre : List ℤ) where
       where
         most : {x y n : ℕ} → x ≡ y → y ≤ n → x ≤ n
         most e g = omega arith
+
+    column-run : getD columns 16 0 ≡ getD columns 0 0 + 16 → (i : ℕ) → i < 17 → getD columns i 0 ≡ getD columns 0 0 + i
+    column-run e i b =
+        column-is i b
+        ∙ near-run (getD centre 0 (pos 0)) (getD origin 0 (pos 0)) (w - 1) (sym (column-is 16 (omega arith)) ∙ e ∙ ap (λ (n : ℕ). n + 16) (column-is 0 (omega arith))) i b
+        ∙ ap (λ (n : ℕ). n + i) (sym (column-is 0 (omega arith)))
+
+    -- columns that follow one another are a run of pixels
+    pub run-is : getD columns 16 0 ≡ getD columns 0 0 + 16 → (j : ℕ) → from (run l (getD rows j 0 * w + getD columns 0 0)) 0 17 ≡ rowOf l w columns rows j
+    run-is e j =
+        from-same (run l (getD rows j 0 * w + getD columns 0 0)) (picked l (getD rows j 0 * w) columns) 0 17
+        (λ i b. ap (λ (n : ℕ). whole (getD l n 0)) (go (getD rows j 0 * w) (getD columns 0 0) i (column-run e i b)))
+      where
+        go : (a f i : ℕ) {c : ℕ} → c ≡ f + i → a + f + i ≡ a + c
+        go a f i e = omega arith
 
     picked-is : (j i : ℕ) → j < 17 → i < 17 → picked l (getD rows j 0 * w) columns i ≡ tile l w h origin centre j i
     unfolding pixel

@@ -9,6 +9,10 @@ use Rattle.levels.specs.Whole.{whole}
 abbrev pub picked : List ℕ → ℕ → List ℕ → ℕ → Float
 picked l start columns i = whole (getD l (start + getD columns i 0) 0)
 
+-- the i-th pixel from place `start` on
+abbrev pub run : List ℕ → ℕ → ℕ → Float
+run l start i = whole (getD l (start + i) 0)
+
 -- 17 samples over those from place `to` on
 abbrev pub laid : List Float → ℕ → List Float → List Float
 laid samples to row = (take to samples ++ row) ++ drop (to + 17) samples

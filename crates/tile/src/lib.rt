@@ -10,7 +10,7 @@ ghost use Rattle.levels.specs.Whole.{Upto};
 ghost use Rattle.disk.specs.Rows.{inRows, read};
 ghost use Rattle.disk.specs.Smoothing.{smoothed};
 ghost use Rattle.tile.specs.Tile.{tile};
-ghost use Rattle.tile.specs.Laid.{laid, picked};
+ghost use Rattle.tile.specs.Laid.{laid, picked, run};
 ghost use Rattle.tile.specs.Width.{answer, edgeOf};
 
 // A width, or document 01's number.
@@ -58,6 +58,18 @@ fn lay(samples: &mut [f32; 289], to: usize, pixels: &[u8], start: usize, columns
     }
 }
 
+// The 17 pixels from place `start` on, as the samples from place `to` on.
+fn lay_run(samples: &mut [f32; 289], to: usize, pixels: &[u8], start: usize)
+    requires { ⌜ (length (now samples) ≡ 289) × (to + 17 ≤ 289) × (start + 17 ≤ length (now pixels)) ⌝ }
+    ensures { λ _. ⌜ now (samples .exit) ≡ laid (now (samples .entry)) to (from (run (now (pixels .entry)) start) 0 17) ⌝ }
+{
+    let mut n = 0;
+    while n < 17 {
+        samples[to + n] = pixels[start + n] as f32;
+        n += 1;
+    }
+}
+
 impl PixelTile {
     // The samples about the centre.
     pub fn load(
@@ -79,10 +91,16 @@ impl PixelTile {
         }
         let columns = nearby(centre[0], origin[0], width - 1);
         let rows = nearby(centre[1], origin[1], height - 1);
+        let first = columns[0];
+        let last = columns[16];
         let mut j = 0;
         while j < 17 {
             let start = rows[j] * width;
-            lay(&mut samples, j * 17, pixels, start, &columns);
+            if last == first + 16 {
+                lay_run(&mut samples, j * 17, pixels, start + first);
+            } else {
+                lay(&mut samples, j * 17, pixels, start, &columns);
+            }
             j += 1;
         }
         Self { samples }

@@ -1,5 +1,6 @@
 -- Each turn lays the next row of the tile.
 use mathlib.Core.Path.{_≡_, refl, sym, ap, _∙_, subst}
+use mathlib.Core.Logic.{⊎-elim}
 use mathlib.Core.List.{List}
 use Prim.Native.Nat.{ℕ, _+_, _-_, _*_, _≤_, _<_}
 use native.Mathlib.Omega.{arith}
@@ -10,16 +11,16 @@ use denote.Ref.{now}
 use Rattle.laws.specs.Lists.{from}
 use Rattle.laws.proofs.Fill.{length-from, Rows, rows-start, rows-put}
 use Rattle.laws.proofs.Machine.{held, held-of}
-use Rattle.tile.specs.Laid.{picked}
-use Rattle.tile.proofs.Loading.{near, places-held, size-held, row-laid, rowOf, no-columns, no-rows, within, tile-is}
+use Rattle.tile.specs.Laid.{laid}
+use Rattle.tile.proofs.Loading.{near, run-is, places-held, size-held, row-laid, rowOf, no-columns, no-rows, within, tile-is}
 use Rattle.tile.proofs.PixelTile.load.Statement.{statement}
 use Rattle.tile.proofs.PixelTile.load.Tie as tie
 
 abbrev Inv-loop : tie.InvT-loop
-Inv-loop pixels width height samples₀ columns rows j₀ samples j = Rows (rowOf pixels width columns rows) samples₀ 17 (j * 17) j samples
+Inv-loop pixels width height samples₀ columns rows first last j₀ samples j = Rows (rowOf pixels width columns rows) samples₀ 17 (j * 17) j samples
 
 abbrev μ-loop : tie.MeasureT-loop
-μ-loop pixels width height samples₀ columns rows j₀ samples j = 17 - j
+μ-loop pixels width height samples₀ columns rows first last j₀ samples j = 17 - j
 
 abbrev S : tie.After-nearby2 Inv-loop μ-loop → tie.Start Inv-loop μ-loop
 S c = c .before .before .before .before .before .before .before .before .before
@@ -71,6 +72,12 @@ sub-nearby-2 c = omega arith
 nearby-requires-2 : tie.Need-nearby-requires-2 Inv-loop μ-loop
 nearby-requires-2 c κs = size-held (getD (c .before .before .before .before .before .before .before .before .args .t5) 1 (pos 0)) (held-of (c .before .nearby-arg3 .given)) (c .before .before .before .before .before .before .before .before .pre .2)
 
+array-read-first : tie.Need-array-read-first Inv-loop μ-loop
+array-read-first c = omega arith
+
+array-read-last : tie.Need-array-read-last Inv-loop μ-loop
+array-read-last c = omega arith
+
 loop-holds : tie.Need-loop-holds Inv-loop μ-loop
 loop-holds c = rows-start
 
@@ -83,13 +90,29 @@ array-read-start c = omega arith
 mul-start-2 : tie.Need-mul-start-2 Inv-loop μ-loop
 mul-start-2 c = omega (arith, inside (c .before .before) (c .before .loop .j) 0 (c .loop-test .taken) (omega arith))
 
+add-if3 : tie.Need-add-if3 Inv-loop μ-loop
+add-if3 c = omega (arith, inside (c .before .before) (c .before .loop .j) 0 (c .loop-test .taken) (omega arith))
+
+mul-lay-run : tie.Need-mul-lay-run Inv-loop μ-loop
+mul-lay-run c = omega arith
+
+add-lay-run : tie.Need-add-lay-run Inv-loop μ-loop
+add-lay-run c =
+    let a = c .before .before .before in
+    omega (arith, inside (a .before) (a .loop .j) 0 (c .before .before .loop-test .taken) (omega arith))
+
+lay-run-requires : tie.Need-lay-run-requires Inv-loop μ-loop
+lay-run-requires c κs =
+    let a = c .before .before .before in
+    (a .loop .inv .long, omega arith, omega (arith, c .before .if3 .taken, inside (a .before) (a .loop .j) 16 (c .before .before .loop-test .taken) (omega arith)))
+
 mul-lay : tie.Need-mul-lay Inv-loop μ-loop
 mul-lay c = omega arith
 
 lay-requires : tie.Need-lay-requires Inv-loop μ-loop
 lay-requires c κs =
-    let a = c .before .before .before in
-    (a .loop .inv .long, omega arith, λ i h. inside (a .before) (a .loop .j) i (c .before .before .loop-test .taken) h)
+    let a = c .before .before .before .before in
+    (a .loop .inv .long, omega arith, λ i h. inside (a .before) (a .loop .j) i (c .before .before .before .loop-test .taken) h)
 
 add-j : tie.Need-add-j Inv-loop μ-loop
 add-j c = omega arith
@@ -99,10 +122,17 @@ loop-less c = omega arith
 
 loop-again : tie.Need-loop-again Inv-loop μ-loop
 loop-again c =
-    let a = c .before .before .before .before in
+    let a = c .before .before in
     let d = a .before in
     let s = S d .args in
-    row-laid (now (s .pixels)) (s .width) (d .before .before .before .nearby .result) (d .nearby2 .result) _ refl (a .loop .inv) (c .before .before .before .loop-test .taken) (c .lay .ensures)
+    let xs = d .before .before .before .nearby .result in
+    let ys = d .nearby2 .result in
+    row-laid (now (s .pixels)) (s .width) xs ys _ refl (a .loop .inv) (c .before .loop-test .taken)
+    (⊎-elim
+    (λ w. (w .3 ∙ w .2 .ensures ∙ ap (laid (a .loop .samples) (a .loop .j * 17))
+    (run-is (now (s .pixels)) (s .width) (s .height) (s .t4) (s .t5) xs ys (columns-are d) (rows-are d) (d .before .before .before .before .before .before .before .if1 .left) (d .before .before .before .before .before .before .if2 .left) (w .0 .taken) (a .loop .j))))
+    (λ w. w .4 ∙ w .3 .ensures)
+    (c .if3 .came))
 
 returns-3 : tie.Need-returns-3 Inv-loop μ-loop
 returns-3 c =
@@ -127,10 +157,16 @@ load-spec =
     array-copy-out-nearby-4
     sub-nearby-2
     nearby-requires-2
+    array-read-first
+    array-read-last
     loop-holds
     mul-start
     array-read-start
     mul-start-2
+    add-if3
+    mul-lay-run
+    add-lay-run
+    lay-run-requires
     mul-lay
     lay-requires
     add-j
