@@ -48,6 +48,32 @@ place-inner m h =
       column-upto = leb→le (k % 17) 11 (and-r (leb 1 (k % 17)) (leb (k % 17) 11) b);
     }
 
+-- the code's table is the rule's list of places
+abbrev table : List ℕ
+table = 23 ∷ 37 ∷ 38 ∷ 39 ∷ 40 ∷ 41 ∷ 42 ∷ 43 ∷ 53 ∷ 54 ∷ 55 ∷ 56 ∷ 57 ∷ 58 ∷ 59 ∷ 60 ∷ 61 ∷ 70 ∷ 71 ∷ 72 ∷ 73 ∷ 74 ∷ 75 ∷ 76 ∷ 77 ∷ 78 ∷ 87 ∷ 88 ∷ 89 ∷ 90 ∷ 91 ∷ 92 ∷ 93 ∷ 94 ∷ 95 ∷ 103 ∷ 104 ∷ 105 ∷ 106 ∷ 107 ∷ 108 ∷ 109 ∷ 110 ∷ 111 ∷ 112 ∷ 113 ∷ 121 ∷ 122 ∷ 123 ∷ 124 ∷ 125 ∷ 126 ∷ 127 ∷ 128 ∷ 129 ∷ 138 ∷ 139 ∷ 140 ∷ 141 ∷ 142 ∷ 143 ∷ 144 ∷ 145 ∷ 146 ∷ 155 ∷ 156 ∷ 157 ∷ 158 ∷ 159 ∷ 160 ∷ 161 ∷ 162 ∷ 163 ∷ 173 ∷ 174 ∷ 175 ∷ 176 ∷ 177 ∷ 178 ∷ 179 ∷ 193 ∷ []
+
+table-is : table ≡ disk
+unfolding disk
+table-is = refl
+
+-- what is read of the table at m is the m-th place, and has its neighbours in the square
+pub record Spot (m r : ℕ) : Type 0 where
+  pub is : r ≡ getD disk m 0
+  pub from-second : 17 ≤ r
+  pub upto-last : r + 17 < 217
+
+pub spot : (m r : ℕ) → m < 81 → r ≡ getD table m 0 → Spot m r
+spot m r h e = record { is = same; from-second = late (place-inner m h .row-from) same; upto-last = early (place-inner m h .row-upto) (place-inner m h .column-upto) same }
+  where
+    same : r ≡ getD disk m 0
+    same = e ∙ ap (λ (l : List ℕ). getD l m 0) table-is
+
+    late : 1 ≤ getD disk m 0 / 17 → r ≡ getD disk m 0 → 17 ≤ r
+    late h e = omega arith
+
+    early : getD disk m 0 / 17 ≤ 11 → getD disk m 0 % 17 ≤ 11 → r ≡ getD disk m 0 → r + 17 < 217
+    early h g e = omega arith
+
 -- the squared gradient at the m-th place k, from the four places around it
 pub squared-at : (l : List Float) (k m : ℕ) → m < 81 → k ≡ getD disk m 0
     → squares (sub binary32 (getD l (k + 1) nan) (getD l (k - 1) nan)) (sub binary32 (getD l (k + 17) nan) (getD l (k - 17) nan)) ≡ squaredAt (read l) (getD disk m 0 / 17) (getD disk m 0 % 17)

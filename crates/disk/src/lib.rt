@@ -1,10 +1,7 @@
 // A square of samples smoothed, and the values and gradients on its disk.
 ghost use mathlib.Core.Path.{_≡_};
-ghost use Prim.Native.Nat.{_+_, _≤_, _<_};
-ghost use lib.ListN.{getD};
 ghost use Rattle.disk.specs.Rows.{inRows, read};
 ghost use Rattle.disk.specs.Smoothing as Smoothing;
-ghost use Rattle.disk.specs.Disk.{disk};
 ghost use Rattle.disk.specs.Gradients as Gradients;
 
 // The places of the disk in rows of 17: dx² + dy² ≤ 25, rows first.
@@ -137,22 +134,15 @@ fn wide(x: u8) -> usize
     x as usize
 }
 
-// The m-th place of the disk.
-fn spot(m: usize) -> usize
-    requires { ⌜ m < 81 ⌝ }
-    ensures { λ r. ⌜ (r ≡ getD disk m 0) × (17 ≤ r) × (r + 17 < 217) ⌝ }
-{
-    wide(EDGE_DISK[m])
-}
-
 // The disk's values.
 pub fn values(smooth: &[f32; 217]) -> [f32; 81]
     ensures { λ r. ⌜ r ≡ Gradients.values (read (now (smooth .entry))) ⌝ }
 {
+    let table = EDGE_DISK;
     let mut out = [0.0f32; 81];
     let mut m = 0;
     while m < 81 {
-        let i = spot(m);
+        let i = wide(table[m]);
         out[m] = smooth[i];
         m += 1;
     }
@@ -163,10 +153,11 @@ pub fn values(smooth: &[f32; 217]) -> [f32; 81]
 pub fn gradients(smooth: &[f32; 217]) -> [f32; 81]
     ensures { λ r. ⌜ r ≡ Gradients.gradients (read (now (smooth .entry))) ⌝ }
 {
+    let table = EDGE_DISK;
     let mut out = [0.0f32; 81];
     let mut m = 0;
     while m < 81 {
-        let i = spot(m);
+        let i = wide(table[m]);
         let gx = smooth[i + 1] - smooth[i - 1];
         let gy = smooth[i + 17] - smooth[i - 17];
         out[m] = gx * gx + gy * gy;

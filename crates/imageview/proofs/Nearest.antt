@@ -3,6 +3,7 @@ use mathlib.Core.Path.{_≡_, refl, sym, ap, _∙_}
 use mathlib.Core.Bool.{Bool, true, false, cond, not}
 use mathlib.Core.List.{List}
 use Prim.Native.Nat.{ℕ, zero, suc, _+_, _*_, _-_, _≤_, _<_, min}
+use native.Mathlib.Nat.{mul-le-mul-right}
 use native.Mathlib.Omega.{arith}
 use borrow.Author.Tests.{ne-eqb}
 use lib.Dec.{T, ltb, ltb→lt, nltb→le}
@@ -49,3 +50,10 @@ inside l w h origin x y column row p q c r =
 
     under : (n k : ℕ) → k < n → min k (n - 1) ≡ k
     under n k h = omega arith
+
+-- a place of row y and column x is one of the w × h
+pub in-image : (w h x y : ℕ) → (w ≡ 0 → ⊥) → (h ≡ 0 → ⊥) → x ≤ w - 1 → y ≤ h - 1 → y * w + x < w * h
+in-image w h x y p q a b = omega (arith, mul-le-mul-right w (go h y q b))
+  where
+    go : (h y : ℕ) → (h ≡ 0 → ⊥) → y ≤ h - 1 → y + 1 ≤ h
+    go h y q b = omega arith

@@ -44,7 +44,7 @@ pub fn far_place(place: [i32; 2]) -> bool
 }
 
 // The whole number of 0 to most that is nearest to v + o.
-fn place(v: i32, o: i32, most: usize) -> usize
+pub fn place(v: i32, o: i32, most: usize) -> usize
     ensures { λ r. ⌜ r ≡ clamped (v +ℤ o) most ⌝ }
 {
     let g = v as i64 + o as i64;

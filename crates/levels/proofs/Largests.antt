@@ -19,6 +19,7 @@ use Rattle.laws.proofs.Choice.{chosen, passed}
 use Rattle.ieee.proofs.TotalOrder.{irreflexive}
 use Rattle.quantile.proofs.Rises.{rises-upto, rising-rises, length-inserted}
 use Rattle.levels.specs.Clear.{clear, AllClear}
+use Rattle.levels.specs.Slide.{above, between}
 use Rattle.levels.specs.Steepness.{largest}
 
 -- ---- on clear numbers `<` is the order
@@ -68,13 +69,7 @@ clear-rest : (l : List Float) → AllClear l → AllClear (drop 1 l)
 clear-rest [] c = tt
 clear-rest (x ∷ l) c = c .1
 
--- ---- insert: v goes up from place j; what it is not below has moved down by one
-
-pub record Climbing (old : List Float) (v : Float) (j : ℕ) (top : List Float) : Type 0 where
-  pub low : j ≤ 7
-  pub long : length top ≡ 8
-  pub later : drop (j + 1) top ≡ drop (j + 1) old
-  pub same : take j top ++ inserted v (drop (j + 1) top) ≡ drop 1 (inserted v old)
+-- ---- insert: each place takes the middle one of v, what it holds and what the next one holds
 
 less-first : (v x : Float) (l : List Float) → totalLess v x ≡ true → inserted v (x ∷ l) ≡ v ∷ x ∷ l
 less-first v x l h = sym (chosen (totalLess v x) (v ∷ x ∷ l) (x ∷ inserted v l) h)
@@ -83,64 +78,107 @@ less-later : (v x : Float) (l : List Float) → totalLess v x ≡ false → inse
 less-later v x l h = sym (passed (totalLess v x) (v ∷ x ∷ l) (x ∷ inserted v l) h)
 
 -- v below the first of all changes nothing
-pub stay : (v : Float) (l : List Float) → length l ≡ 8 → totalLess v (getD l 0 nan) ≡ true → l ≡ drop 1 (inserted v l)
-stay v [] e h = absurd (none e)
+pub stay : (v : Float) (l : List Float) → length l ≡ 8 → T (clear v) → AllClear l → lt v (getD l 0 nan) ≡ true → l ≡ drop 1 (inserted v l)
+stay v [] e p c h = absurd (none e)
   where
     none : _≡_ {A = ℕ} 0 8 → ⊥
     none e = omega arith
-stay v (x ∷ l) e h = sym (ap (drop 1) (less-first v x l h))
+stay v (x ∷ l) e p c h = sym (ap (drop 1) (less-first v x l (less-is v x p (c .0) ∙ h)))
 
-pub climb-start : (v : Float) (l : List Float) → length l ≡ 8 → totalLess v (getD l 0 nan) ≡ false → Climbing l v 0 l
-climb-start v [] e h = absurd (none e)
+-- the places from the one that holds y on, of which l are the later ones
+abbrev slide : Float → Float → List Float → List Float
+slide v y [] = above v y ∷ []
+slide v y (x ∷ l) = between v y x ∷ slide v x l
+
+between-both : (v y x : Float) → lt v x ≡ true → between v y x ≡ above v y
+between-both v y x h = sym (chosen (lt v x) (above v y) x h)
+
+between-past : (v y x : Float) → lt v x ≡ false → between v y x ≡ x
+between-past v y x h = sym (passed (lt v x) (above v y) x h)
+
+-- v below the first changes nothing
+slid-below : (v y : Float) (l : List Float) → T (clear v) → AllClear (y ∷ l) → Rises (y ∷ l) → lt v y ≡ true → slide v y l ≡ y ∷ l
+slid-below v y [] p c R h = ap (λ (z : Float). z ∷ []) (sym (chosen (lt v y) y v h))
+slid-below v y (x ∷ l) p c R h =
+    λ i. (between-both v y x next ∙ sym (chosen (lt v y) y v h)) i ∷ slid-below v x l p (c .1) (λ (k : ℕ). R (suc k)) next i
+  where
+    next : lt v x ≡ true
+    next = sym (less-is v x p (c .1 .0)) ∙ below-upto v y x (less-is v y p (c .0) ∙ h) (R 0)
+
+slid-past : (v y : Float) (l : List Float) → T (clear v) → AllClear (y ∷ l) → Rises (y ∷ l) → lt v y ≡ false → slide v y l ≡ inserted v l
+slid-past v y [] p c R h = ap (λ (z : Float). z ∷ []) (sym (passed (lt v y) y v h))
+slid-past v y (x ∷ l) p c R h = go (lt v x) refl (λ t. slid-past v x l p (c .1) (λ (k : ℕ). R (suc k)) t)
+  where
+    rest : Rises (x ∷ l)
+    rest k = R (suc k)
+
+    go : (b : Bool) → lt v x ≡ b → (lt v x ≡ false → slide v x l ≡ inserted v l) → slide v y (x ∷ l) ≡ inserted v (x ∷ l)
+    go true t later =
+        (λ i. (between-both v y x t ∙ sym (passed (lt v y) y v h)) i ∷ slid-below v x l p (c .1) rest t i)
+        ∙ sym (less-first v x l (less-is v x p (c .1 .0) ∙ t))
+    go false t later = (λ i. between-past v y x t i ∷ later t i) ∙ sym (less-later v x l (less-is v x p (c .1 .0) ∙ t))
+
+slid : (v y : Float) (l : List Float) → T (clear v) → AllClear (y ∷ l) → Rises (y ∷ l) → slide v y l ≡ drop 1 (inserted v (y ∷ l))
+slid v y l p c R = go (lt v y) refl
+  where
+    go : (b : Bool) → lt v y ≡ b → slide v y l ≡ drop 1 (inserted v (y ∷ l))
+    go true t = slid-below v y l p c R t ∙ sym (ap (drop 1) (less-first v y l (less-is v y p (c .0) ∙ t)))
+    go false t = slid-past v y l p c R t ∙ sym (ap (drop 1) (less-later v y l (less-is v y p (c .0) ∙ t)))
+
+-- the places before j are done
+pub record Sliding (goal : List Float) (v : Float) (j : ℕ) (top : List Float) : Type 0 where
+  pub low : j ≤ 7
+  pub long : length top ≡ 8
+  pub same : take j top ++ slide v (getD top j nan) (drop (j + 1) top) ≡ goal
+
+pub slide-start : (v : Float) (l : List Float) → length l ≡ 8 → T (clear v) → AllClear l → Rises l → Sliding (drop 1 (inserted v l)) v 0 l
+slide-start v [] e p c R = absurd (none e)
   where
     none : _≡_ {A = ℕ} 0 8 → ⊥
     none e = omega arith
-climb-start v (x ∷ l) e h = record { low = omega arith; long = e; later = refl; same = sym (ap (drop 1) (less-later v x l h)) }
+slide-start v (y ∷ l) e p c R = record { low = omega arith; long = e; same = slid v y l p c R }
 
-module _ {old top : List Float} {v : Float} {j : ℕ} (c : Climbing old v j top) where
-  -- what stands after place j
+module _ {goal top : List Float} {v : Float} {j : ℕ} (c : Sliding goal v j top) where
   rest-is : j < 7 → drop (j + 1) top ≡ getD top (j + 1) nan ∷ drop (j + 1 + 1) top
   rest-is h = rw (add-one (j + 1)) (drop-cons top (j + 1) nan (omega (arith, c .long)))
 
-  pub climb-next : j < 7 → getD top (j + 1) nan ≡ getD old (j + 1) nan
-  climb-next h = sym (first top) ∙ ap (λ (l : List Float). getD l 0 nan) (c .later) ∙ first old
+  pub slide-more : j < 7 → {b : Float} → b ≡ between v (getD top j nan) (getD top (j + 1) nan) → Sliding goal v (j + 1) (set top j b)
+  slide-more h {b} e = record {
+    low = omega arith;
+    long = length-set top j b ∙ c .long;
+    same = (λ i. taken i ++ slide v (next-is i) (drop-set-lt (j + 1 + 1) top j b (omega arith) i))
+        ∙ append-snoc (take j top) b (slide v (getD top (j + 1) nan) (drop (j + 1 + 1) top))
+        ∙ ap (λ (z : Float). take j top ++ (z ∷ slide v (getD top (j + 1) nan) (drop (j + 1 + 1) top))) e
+        ∙ ap (λ (l : List Float). take j top ++ slide v (getD top j nan) l) (sym (rest-is h))
+        ∙ c .same;
+  }
     where
+      taken : take (j + 1) (set top j b) ≡ take j top ++ (b ∷ [])
+      taken = rw (add-one j) (take-suc-set top j b (omega (arith, c .long, h)))
+
       first : (l : List Float) → getD (drop (j + 1) l) 0 nan ≡ getD l (j + 1) nan
       first l = getD-drop (j + 1) l 0 nan ∙ ap (λ (i : ℕ). getD l i nan) (go j)
         where
           go : (j : ℕ) → j + 1 + 0 ≡ j + 1
           go j = omega arith
 
-  drop-after : (n : ℕ) (x : Float) → j < n → drop n (set top j x) ≡ drop n top
-  drop-after n x h = drop-set-lt n top j x h
+      next-is : getD (set top j b) (j + 1) nan ≡ getD top (j + 1) nan
+      next-is = sym (first (set top j b)) ∙ ap (λ (l : List Float). getD l 0 nan) (drop-set-lt (j + 1) top j b (omega arith)) ∙ first top
 
-  pub climb-more : j < 7 → {x : Float} → x ≡ getD top (j + 1) nan → totalLess v x ≡ false → Climbing old v (j + 1) (set top j x)
-  climb-more h {x} e t = record {
-    low = omega arith;
-    long = length-set top j x ∙ c .long;
-    later = drop-after (j + 1 + 1) x (omega arith) ∙ sym (drop-drop 1 (j + 1) top) ∙ ap (drop 1) (c .later) ∙ drop-drop 1 (j + 1) old;
-    same = ap (λ (l : List Float). take (j + 1) (set top j x) ++ inserted v l) (drop-after (j + 1 + 1) x (omega arith))
-        ∙ ap (λ (l : List Float). l ++ inserted v (drop (j + 1 + 1) top)) taken
-        ∙ append-snoc (take j top) x (inserted v (drop (j + 1 + 1) top))
-        ∙ ap (λ (l : List Float). take j top ++ l) (sym (ap (inserted v) (rest-is h ∙ ap (λ (z : Float). z ∷ drop (j + 1 + 1) top) (sym e)) ∙ less-later v x (drop (j + 1 + 1) top) t))
-        ∙ c .same;
-  }
+  pub slide-end : 7 ≤ j → {b : Float} → b ≡ above v (getD top 7 nan) → set top 7 b ≡ goal
+  slide-end h {b} e =
+      set-split top 7 b (omega (arith, c .long))
+      ∙ ap (λ (l : List Float). take 7 top ++ (b ∷ l)) nothing
+      ∙ ap (λ (z : Float). take 7 top ++ (z ∷ [])) e
+      ∙ ap (λ (l : List Float). take 7 top ++ slide v (getD top 7 nan) l) (sym nothing)
+      ∙ ap (λ (i : ℕ). take i top ++ slide v (getD top i nan) (drop (i + 1) top)) (seven j (c .low) h)
+      ∙ c .same
     where
-      taken : take (j + 1) (set top j x) ≡ take j top ++ (x ∷ [])
-      taken = rw (add-one j) (take-suc-set top j x (omega (arith, c .long, h)))
+      nothing : drop 8 top ≡ []
+      nothing = drop-of-length-le top {i = 8} (omega (arith, c .long))
 
-  placed : {n : ℕ} (m : List Float) → j ≡ n → drop (j + 1) top ≡ m → inserted v m ≡ v ∷ m → set top n v ≡ drop 1 (inserted v old)
-  placed {n} m e p q =
-      ap (λ (i : ℕ). set top i v) (sym e) ∙ set-split top j v (omega (arith, c .low, c .long))
-      ∙ ap (λ (l : List Float). take j top ++ (v ∷ l)) (sym (ap (λ (i : ℕ). drop i top) (add-one j)) ∙ p)
-      ∙ ap (λ (l : List Float). take j top ++ l) (sym (ap (inserted v) p ∙ q)) ∙ c .same
-
-  pub climb-stop : j < 7 → {x : Float} → x ≡ getD top (j + 1) nan → totalLess v x ≡ true → set top j v ≡ drop 1 (inserted v old)
-  climb-stop h {x} e t =
-      placed (x ∷ drop (j + 1 + 1) top) refl (rest-is h ∙ ap (λ (z : Float). z ∷ drop (j + 1 + 1) top) (sym e)) (less-first v x (drop (j + 1 + 1) top) t)
-
-  pub climb-end : 7 ≤ j → set top 7 v ≡ drop 1 (inserted v old)
-  climb-end h = placed [] (omega (arith, c .low)) (drop-of-length-le top {i = j + 1} (omega (arith, c .long))) refl
+      seven : (j : ℕ) → j ≤ 7 → 7 ≤ j → 7 ≡ j
+      seven j a b = omega arith
 
 -- ---- dropping the smallest as one goes is dropping them all at the end
 
@@ -216,6 +254,17 @@ pub keep-start : (g : List Float) → Kept g 0 (replicate 8 none)
 unfolding ofBits
 keep-start g = record { low = omega arith; long = refl; all = (tt, (tt, (tt, (tt, (tt, (tt, (tt, (tt, tt)))))))); same = sym (append-nil (replicate 8 none)) }
 
+all-rise : (g : List Float) → AllClear g → (m : ℕ) → m ≤ length g → Rises (replicate 8 none ++ rising (at g) m)
+all-rise g c m h = zeros-rise 8 (rising (at g) m) (clear-rising g c m h) (rising-rises (at g) m)
+
+drop-rises : (l : List Float) → Rises l → (k : ℕ) → Rises (drop k l)
+drop-rises l R zero = R
+drop-rises [] R (suc k) = R
+drop-rises (x ∷ l) R (suc k) = drop-rises l (λ (i : ℕ). R (suc i)) k
+
+pub kept-rises : {g top : List Float} {m : ℕ} → length g ≡ 81 → AllClear g → Kept g m top → Rises top
+kept-rises {g} {top} {m} long c k = subst Rises (sym (k .same)) (drop-rises (replicate 8 none ++ rising (at g) m) (all-rise g c m (omega (arith, long, k .low))) m)
+
 pub keep-put : {g top top′ : List Float} {m : ℕ} → length g ≡ 81 → AllClear g → Kept g m top → m < 81 → top′ ≡ drop 1 (inserted (getD g m nan) top) → Kept g (m + 1) top′
 keep-put {g} {top} {top′} {m} long c k h e = record {
   low = omega arith;
@@ -235,7 +284,7 @@ keep-put {g} {top} {top′} {m} long c k h e = record {
     all-so-far = replicate 8 none ++ rising (at g) m
 
     rises : Rises (replicate 8 none ++ rising (at g) m)
-    rises = zeros-rise 8 (rising (at g) m) (clear-rising g c m (omega (arith, long, h))) (rising-rises (at g) m)
+    rises = all-rise g c m (omega (arith, long, h))
 
     go : (n : ℕ) → n ≡ suc 8 → n - 1 ≡ 8
     go n e = omega arith

@@ -4,3 +4,4 @@ pub mod Contrasts
 pub mod Largests
 pub mod Wholes
 pub mod Sums
+pub mod Extremes

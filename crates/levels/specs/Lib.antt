@@ -4,3 +4,4 @@ pub mod Clear
 pub mod Levels
 pub mod Steepness
 pub mod Adding
+pub mod Slide

@@ -6,12 +6,13 @@ ghost use lib.Dec.{T};
 ghost use lib.ListN.{length, drop};
 ghost use lib.Ieee.{binary32, sub, div, le};
 ghost use Rattle.ieee.specs.Sqrt.{sqrt};
-ghost use Rattle.quantile.specs.Rising.{inserted};
+ghost use Rattle.quantile.specs.Rising.{inserted, Rises};
 ghost use Rattle.levels.specs.Whole.{whole};
 ghost use Rattle.levels.specs.Kept.{kept};
 ghost use Rattle.levels.specs.Clear.{clear, AllClear};
 ghost use Rattle.levels.specs.Levels as Levels;
 ghost use Rattle.levels.specs.Steepness as Steepness;
+ghost use Rattle.levels.specs.Slide as Slide;
 
 fn highest(values: &[f32; 81]) -> f32
     requires { ⌜ length (now values) ≡ 81 ⌝ }
@@ -20,7 +21,10 @@ fn highest(values: &[f32; 81]) -> f32
     let mut most = -1.0f32 / 0.0;
     let mut m = 0;
     while m < 81 {
-        most = float::max32(most, values[m]);
+        let v = values[m];
+        if most < v {
+            most = v;
+        }
         m += 1;
     }
     most
@@ -33,7 +37,10 @@ fn lowest(values: &[f32; 81]) -> f32
     let mut least = 1.0f32 / 0.0;
     let mut m = 0;
     while m < 81 {
-        least = float::min32(least, values[m]);
+        let v = values[m];
+        if v < least {
+            least = v;
+        }
         m += 1;
     }
     least
@@ -99,26 +106,39 @@ pub fn contrast(values: &[f32; 81]) -> f32
     mean_from(values, most - band) - mean_upto(values, least + band)
 }
 
-// v among the eight largest so far, which rise; the smallest falls out.
+// The larger of v and y.
+fn above(v: f32, y: f32) -> f32
+    ensures { λ r. ⌜ r ≡ Slide.above v y ⌝ }
+{
+    if v < y { y } else { v }
+}
+
+// The middle one of v, y and x, where y is not above x.
+fn between(v: f32, y: f32, x: f32) -> f32
+    ensures { λ r. ⌜ r ≡ Slide.between v y x ⌝ }
+{
+    let most = above(v, y);
+    if v < x { most } else { x }
+}
+
+// v among the eight largest so far, which rise; the smallest falls out. One jump turns on the numbers.
 fn insert(top: &mut [f32; 8], v: f32)
-    requires { ⌜ (length (now top) ≡ 8) × AllClear (now top) × T (clear v) ⌝ }
+    requires { ⌜ (length (now top) ≡ 8) × AllClear (now top) × T (clear v) × Rises (now top) ⌝ }
     ensures { λ _. ⌜ now (top .exit) ≡ drop 1 (inserted v (now (top .entry))) ⌝ }
 {
-    let least = top[0];
-    if v < least {
+    let first = top[0];
+    if v < first {
         return;
     }
     let mut j = 0;
     while j < 7 {
+        let y = top[j];
         let x = top[j + 1];
-        if v < x {
-            top[j] = v;
-            return;
-        }
-        top[j] = x;
+        top[j] = between(v, y, x);
         j += 1;
     }
-    top[7] = v;
+    let last = top[7];
+    top[7] = above(v, last);
 }
 
 // The eight largest, the smallest of them first.

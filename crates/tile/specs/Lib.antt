@@ -1,3 +1,4 @@
 pub mod Tile
+pub mod Laid
 pub mod Smoothing
 pub mod Width

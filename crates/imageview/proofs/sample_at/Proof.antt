@@ -3,35 +3,23 @@ use mathlib.Core.Path.{_≡_, refl, sym, ap, _∙_}
 use mathlib.Core.Bool.{true, false}
 use mathlib.Core.List.{List}
 use Prim.Native.Nat.{ℕ, _+_, _*_, _-_, _≤_, _<_}
-use native.Mathlib.Nat.{mul-le-mul-right}
 use native.Mathlib.Omega.{arith}
 use borrow.Author.Tests.{eq-eqb, ne-eqb}
 use borrow.Author.Needs.{needs}
 use lib.ListN.{length, getD}
-use lib.IntN.{ℤ, pos, negsuc, _+ℤ_}
+use lib.IntN.{ℤ, pos, _+ℤ_}
 use denote.Ref.{now}
 use lib.Ieee.{Float, binary32, ofBits, ofInt}
 use mir.Facts.{toZ-ofZ}
 use Rattle.laws.proofs.Machine.{held, held-of}
 use Rattle.imageview.specs.Sample.{clamped, pixel, sample}
+use Rattle.imageview.proofs.Nearest.{clamped-most, in-image}
 use Rattle.imageview.proofs.sample_at.Statement.{statement}
 use Rattle.imageview.proofs.sample_at.Tie as tie
-
-clamped-most : (z : ℤ) (m : ℕ) → clamped z m ≤ m
-unfolding clamped
-clamped-most (pos n) m = omega arith
-clamped-most (negsuc n) m = omega arith
 
 nought : ofBits binary32 0 ≡ ofInt binary32 (pos 0)
 unfolding ofBits ofInt
 nought = refl
-
--- a place of row y and column x is inside
-inside : (w h x y : ℕ) → (w ≡ 0 → ⊥) → (h ≡ 0 → ⊥) → x ≤ w - 1 → y ≤ h - 1 → y * w + x < w * h
-inside w h x y p q a b = omega (arith, mul-le-mul-right w (go h y q b))
-  where
-    go : (h y : ℕ) → (h ≡ 0 → ⊥) → y ≤ h - 1 → y + 1 ≤ h
-    go h y q b = omega arith
 
 sum : (v o : ℤ) → held v ≡ v → held o ≡ o → held v +ℤ held o ≡ v +ℤ o
 sum v o p q = rw (p, q) refl
@@ -50,7 +38,7 @@ y-is c = c .place2 .ensures ∙ ap (λ (z : ℤ). clamped z (S c .args .height -
 
 at : (c : tie.After-place2) → c .place2 .result * S c .args .width + c .before .before .place .result < S c .args .width * S c .args .height
 at c =
-    inside (S c .args .width) (S c .args .height) (c .before .before .place .result) (c .place2 .result)
+    in-image (S c .args .width) (S c .args .height) (c .before .before .place .result) (c .place2 .result)
     (c .before .before .before .before .before .if1 .left) (c .before .before .before .before .if2 .left) (most _ _ _ (x-is c)) (most _ _ _ (y-is c))
 
 returns : tie.Need-returns

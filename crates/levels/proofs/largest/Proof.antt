@@ -5,7 +5,7 @@ use native.Mathlib.Omega.{arith}
 use lib.ListN.{length, getD}
 use denote.Ref.{now}
 use lib.Ieee.{Float, nan}
-use Rattle.levels.proofs.Largests.{Kept, clear-at, keep-start, keep-put, keep-end}
+use Rattle.levels.proofs.Largests.{Kept, clear-at, keep-start, kept-rises, keep-put, keep-end}
 use Rattle.levels.proofs.largest.Statement.{statement}
 use Rattle.levels.proofs.largest.Tie as tie
 
@@ -27,7 +27,7 @@ element-copy-out-v c = omega arith
 insert-requires : tie.Need-insert-requires Inv-loop μ-loop
 insert-requires c κs =
     let d = c .before .before .before in
-    (d .loop .inv .long, d .loop .inv .all, clear-at (now (d .before .args .gradients)) (d .before .pre .1) (d .loop .m) (omega arith))
+    (d .loop .inv .long, d .loop .inv .all, clear-at (now (d .before .args .gradients)) (d .before .pre .1) (d .loop .m) (omega arith), kept-rises (d .before .pre .0) (d .before .pre .1) (d .loop .inv))
 
 add-m : tie.Need-add-m Inv-loop μ-loop
 add-m c = omega arith

@@ -5,30 +5,29 @@ use native.Mathlib.Omega.{arith}
 use lib.ListN.{length, getD}
 use denote.Ref.{now}
 use lib.Ieee.{Float, nan, binary32}
+use mathlib.Core.Logic.{⊎-elim}
 use mathlib.Core.List.{foldl}
 use Rattle.ieee.specs.Order.{smaller}
 use Rattle.ieee.proofs.Tests.{one-over-zero}
-use Rattle.levels.proofs.Folds.{Folding, fold-start, fold-put, fold-end}
+use Rattle.levels.proofs.Folds.{fold-end}
+use Rattle.levels.proofs.Extremes.{Extreme, extreme-start, lower, no-lower}
 use Rattle.levels.proofs.lowest.Statement.{statement}
 use Rattle.levels.proofs.lowest.Tie as tie
 
 abbrev Inv-loop : tie.InvT-loop
-Inv-loop values least₀ m₀ least m = Folding smaller values least₀ least m
+Inv-loop values least₀ m₀ least m = Extreme smaller values least₀ least m
 
 abbrev μ-loop : tie.MeasureT-loop
 μ-loop values least₀ m₀ least m = 81 - m
 
 loop-holds : tie.Need-loop-holds Inv-loop μ-loop
-loop-holds c = fold-start
+loop-holds c = extreme-start _ one-over-zero
 
-mul-min32 : tie.Need-mul-min32 Inv-loop μ-loop
-mul-min32 c = omega arith
+mul-v : tie.Need-mul-v Inv-loop μ-loop
+mul-v c = omega arith
 
-element-copy-out-min32 : tie.Need-element-copy-out-min32 Inv-loop μ-loop
-element-copy-out-min32 c = omega arith
-
-min32-requires : tie.Need-min32-requires Inv-loop μ-loop
-min32-requires c κs = tt
+element-copy-out-v : tie.Need-element-copy-out-v Inv-loop μ-loop
+element-copy-out-v c = omega arith
 
 add-m : tie.Need-add-m Inv-loop μ-loop
 add-m c = omega arith
@@ -37,10 +36,13 @@ loop-less : tie.Need-loop-less Inv-loop μ-loop
 loop-less c = omega arith
 
 loop-again : tie.Need-loop-again Inv-loop μ-loop
-loop-again c = fold-put nan (c .before .before .before .loop .inv) (omega arith) (c .min32 .ensures)
+loop-again c =
+    let d = c .before .before .before in
+    let x = getD (now (d .before .args .values)) (d .loop .m) nan in
+    ⊎-elim (λ w. lower x refl (omega arith) (d .loop .inv) (w .0 .taken) (w .1)) (λ w. no-lower x refl (omega arith) (d .loop .inv) (w .0 .left) (w .1)) (c .if1 .came)
 
 returns : tie.Need-returns Inv-loop μ-loop
-returns c = fold-end (c .before .loop .inv) (omega arith) ∙ ap (λ (z : Float). foldl smaller z (now (c .before .before .args .values))) one-over-zero
+returns c = fold-end (c .before .loop .inv .fold) (omega arith) ∙ ap (λ (z : Float). foldl smaller z (now (c .before .before .args .values))) one-over-zero
 
 pub lowest-spec : {M : Type 1} → statement M
 lowest-spec =
@@ -49,9 +51,8 @@ lowest-spec =
     Inv-loop
     μ-loop
     loop-holds
-    mul-min32
-    element-copy-out-min32
-    min32-requires
+    mul-v
+    element-copy-out-v
     add-m
     loop-less
     loop-again

@@ -18,7 +18,7 @@ steepness-requires c κs =
     let b = c .before in
     let d = b .before .before .before .before in
     let s = d .before .before .before in
-    (search needs, grads-clear (s .args .self .samples) (d .down .result) (b .before .before .across .result) (b .gradients .result) (d .down .ensures) (b .before .before .across .ensures) (b .gradients .ensures) (s .pre))
+    (search needs, grads-clear (s .args .t1 .samples) (d .down .result) (b .before .before .across .result) (b .gradients .result) (d .down .ensures) (b .before .before .across .ensures) (b .gradients .ensures) (s .pre))
 
 values-requires : tie.Need-values-requires
 values-requires c κs = search needs
@@ -32,7 +32,7 @@ returns c =
     let b = e .before .before in
     let d = b .before .before .before .before in
     let s = d .before .before .before in
-    width-is (s .args .self .samples) (d .down .result) (b .before .before .across .result) (b .gradients .result) (d .down .ensures) (b .before .before .across .ensures) (b .gradients .ensures)
+    width-is (s .args .t1 .samples) (d .down .result) (b .before .before .across .result) (b .gradients .result) (d .down .ensures) (b .before .before .across .ensures) (b .gradients .ensures)
     (e .steepness .result) (e .steepness .ensures) (c .before .before .values .result) (c .contrast .result) (c .before .before .values .ensures) (c .contrast .ensures) (c .before .before .before .before .if1 .taken)
 
 returns-2 : tie.Need-returns-2
@@ -41,7 +41,7 @@ returns-2 c =
     let b = e .before .before in
     let d = b .before .before .before .before in
     let s = d .before .before .before in
-    flat-is (s .args .self .samples) (d .down .result) (b .before .before .across .result) (b .gradients .result) (d .down .ensures) (b .before .before .across .ensures) (b .gradients .ensures)
+    flat-is (s .args .t1 .samples) (d .down .result) (b .before .before .across .result) (b .gradients .result) (d .down .ensures) (b .before .before .across .ensures) (b .gradients .ensures)
     (e .steepness .result) (e .steepness .ensures) (c .if1 .left)
 
 pub edge-width-spec : {M : Type 1} → statement M

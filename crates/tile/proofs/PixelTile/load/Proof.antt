@@ -1,99 +1,145 @@
--- Place k of the tile is the sample at row k / 17 and column k % 17 about the centre.
+-- Each turn lays the next row of the tile.
 use mathlib.Core.Path.{_≡_, refl, sym, ap, _∙_, subst}
-use mathlib.Core.List.{List, [], _∷_}
-use Prim.Native.Nat.{ℕ, _+_, _-_, _*_, _/_, _%_, _≤_, _<_}
+use mathlib.Core.Logic.{⊎-elim}
+use mathlib.Core.List.{List}
+use Prim.Native.Nat.{ℕ, _+_, _-_, _*_, _≤_, _<_}
 use native.Mathlib.Omega.{arith}
 use borrow.Author.Needs.{needs}
 use lib.ListN.{length, getD}
-use lib.IntN.{ℤ, pos, natAbs, _+ℤ_, _-ℤ_}
-use mir.Syntax.{w32}
-use mir.Val.{toZ, ofZ}
-use mir.Facts.{toZ-ofZ}
+use lib.IntN.{ℤ, pos, natAbs}
 use denote.Ref.{now}
-use lib.Ieee.{Float}
 use Rattle.laws.specs.Lists.{from}
-use Rattle.laws.proofs.Fill.{Tab, tab-start, tab-put, tab-end}
-use Rattle.laws.proofs.Ring.{Ex, v, k as lit, _⊕_, _⊖_}
-use Rattle.laws.proofs.Machine.{held, held-of, held-small, under}
-use Rattle.imageview.specs.Sample.{sample}
-use Rattle.disk.specs.Rows.{inRows}
-use Rattle.tile.specs.Tile.{tile}
+use Rattle.laws.proofs.Fill.{length-from, Rows, rows-start, rows-put}
+use Rattle.laws.proofs.Machine.{held, held-of}
+use Rattle.tile.specs.Laid.{laid}
+use Rattle.tile.proofs.Loading.{near, run-is, places-held, size-held, row-laid, rowOf, no-columns, no-rows, within, tile-is}
 use Rattle.tile.proofs.PixelTile.load.Statement.{statement}
 use Rattle.tile.proofs.PixelTile.load.Tie as tie
 
 abbrev Inv-loop : tie.InvT-loop
-Inv-loop pixels width height origin cx cy samples₀ k₀ samples k = Tab (λ i. sample pixels width height origin (toZ w32 cx +ℤ (pos (i % 17) -ℤ pos 8)) (toZ w32 cy +ℤ (pos (i / 17) -ℤ pos 8))) 289 k samples
+Inv-loop pixels width height samples₀ columns rows first last j₀ samples j = Rows (rowOf pixels width columns rows) samples₀ 17 (j * 17) j samples
 
 abbrev μ-loop : tie.MeasureT-loop
-μ-loop pixels width height origin cx cy samples₀ k₀ samples k = 289 - k
+μ-loop pixels width height samples₀ columns rows first last j₀ samples j = 17 - j
 
--- what the machine holds of a place near c is that place
-moved : (r c : ℤ) (i : ℕ) → r ≡ c +ℤ (pos i -ℤ pos 8) → natAbs c ≤ 1000000 → i < 17 → held r ≡ c +ℤ (pos i -ℤ pos 8)
-moved r c i e h g =
-    ap held e ∙ held-small (c +ℤ (pos i -ℤ pos 8)) 1000025 (under (c ∷ pos i ∷ []) (1000000 ∷ 17 ∷ []) (h, (omega arith, tt)) (v 0 ⊕ (v 1 ⊖ lit (pos 8))) 1000025 tt) tt
+abbrev S : tie.After-nearby2 Inv-loop μ-loop → tie.Start Inv-loop μ-loop
+S c = c .before .before .before .before .before .before .before .before .before
 
--- what the machine holds of the centre is the centre
-abbrev S : tie.At-loop Inv-loop μ-loop → tie.Start Inv-loop μ-loop
-S c = c .before .before .before .before
+-- what the machine holds of the centre and the origin is these
+columns-are : (c : tie.After-nearby2 Inv-loop μ-loop) → c .before .before .before .nearby .result ≡ from (near (getD (S c .args .t5) 0 (pos 0)) (getD (S c .args .t4) 0 (pos 0)) (S c .args .width - 1)) 0 17
+columns-are c = c .before .before .before .nearby .ensures ∙ places-held (S c .args .width - 1) (getD (S c .args .t5) 0 (pos 0)) (getD (S c .args .t4) 0 (pos 0)) (held-of (c .before .before .before .before .before .nearby-arg .given)) (held-of (c .before .before .before .before .nearby-arg2 .given))
 
-x-is : (c : tie.At-loop Inv-loop μ-loop) → held (getD (S c .args .t5) 0 (pos 0)) ≡ getD (S c .args .t5) 0 (pos 0)
-x-is c = held-of (c .before .before .cx .given)
+rows-are : (c : tie.After-nearby2 Inv-loop μ-loop) → c .nearby2 .result ≡ from (near (getD (S c .args .t5) 1 (pos 0)) (getD (S c .args .t4) 1 (pos 0)) (S c .args .height - 1)) 0 17
+rows-are c = c .nearby2 .ensures ∙ places-held (S c .args .height - 1) (getD (S c .args .t5) 1 (pos 0)) (getD (S c .args .t4) 1 (pos 0)) (held-of (c .before .before .nearby-arg3 .given)) (held-of (c .before .nearby-arg4 .given))
 
-y-is : (c : tie.At-loop Inv-loop μ-loop) → held (getD (S c .args .t5) 1 (pos 0)) ≡ getD (S c .args .t5) 1 (pos 0)
-y-is c = held-of (c .before .cy .given)
+inside : (c : tie.After-nearby2 Inv-loop μ-loop) (j i : ℕ) → j < 17 → i < 17 → getD (c .nearby2 .result) j 0 * S c .args .width + getD (c .before .before .before .nearby .result) i 0 < length (now (S c .args .pixels))
+inside c j i a b =
+    let s = S c .args in
+    subst (λ (n : ℕ). getD (c .nearby2 .result) j 0 * s .width + getD (c .before .before .before .nearby .result) i 0 < n) (sym (S c .pre .0))
+    (within (now (s .pixels)) (s .width) (s .height) (s .t4) (s .t5) (c .before .before .before .nearby .result) (c .nearby2 .result) (columns-are c) (rows-are c) (c .before .before .before .before .before .before .before .if1 .left) (c .before .before .before .before .before .before .if2 .left) j i a b)
 
-same-centre : (l : List ℕ) (w h : ℕ) (o : List ℤ) {x y x′ y′ : ℤ} → x ≡ x′ → y ≡ y′
-    → from (λ i. sample l w h o (x +ℤ (pos (i % 17) -ℤ pos 8)) (y +ℤ (pos (i / 17) -ℤ pos 8))) 0 289 ≡ from (λ i. sample l w h o (x′ +ℤ (pos (i % 17) -ℤ pos 8)) (y′ +ℤ (pos (i / 17) -ℤ pos 8))) 0 289
-same-centre l w h o p q = λ j. from (λ i. sample l w h o (p j +ℤ (pos (i % 17) -ℤ pos 8)) (q j +ℤ (pos (i / 17) -ℤ pos 8))) 0 289
+returns : tie.Need-returns Inv-loop μ-loop
+returns c =
+    let s = c .before .before .args in
+    no-columns (now (s .pixels)) (s .width) (s .height) (s .t4) (s .t5) (c .if1 .taken)
 
-array-copy-out-cx : tie.Need-array-copy-out-cx Inv-loop μ-loop
-array-copy-out-cx c = search needs
+returns-2 : tie.Need-returns-2 Inv-loop μ-loop
+returns-2 c =
+    let s = c .before .before .before .args in
+    no-rows (now (s .pixels)) (s .width) (s .height) (s .t4) (s .t5) (c .before .if1 .left) (c .if2 .taken)
 
-array-copy-out-cy : tie.Need-array-copy-out-cy Inv-loop μ-loop
-array-copy-out-cy c = search needs
+array-copy-out-nearby : tie.Need-array-copy-out-nearby Inv-loop μ-loop
+array-copy-out-nearby c = search needs
+
+array-copy-out-nearby-2 : tie.Need-array-copy-out-nearby-2 Inv-loop μ-loop
+array-copy-out-nearby-2 c = search needs
+
+sub-nearby : tie.Need-sub-nearby Inv-loop μ-loop
+sub-nearby c = omega arith
+
+nearby-requires : tie.Need-nearby-requires Inv-loop μ-loop
+nearby-requires c κs = size-held (getD (c .before .before .before .before .before .args .t5) 0 (pos 0)) (held-of (c .before .nearby-arg .given)) (c .before .before .before .before .before .pre .1)
+
+array-copy-out-nearby-3 : tie.Need-array-copy-out-nearby-3 Inv-loop μ-loop
+array-copy-out-nearby-3 c = search needs
+
+array-copy-out-nearby-4 : tie.Need-array-copy-out-nearby-4 Inv-loop μ-loop
+array-copy-out-nearby-4 c = search needs
+
+sub-nearby-2 : tie.Need-sub-nearby-2 Inv-loop μ-loop
+sub-nearby-2 c = omega arith
+
+nearby-requires-2 : tie.Need-nearby-requires-2 Inv-loop μ-loop
+nearby-requires-2 c κs = size-held (getD (c .before .before .before .before .before .before .before .before .args .t5) 1 (pos 0)) (held-of (c .before .nearby-arg3 .given)) (c .before .before .before .before .before .before .before .before .pre .2)
+
+array-read-first : tie.Need-array-read-first Inv-loop μ-loop
+array-read-first c = omega arith
+
+array-read-last : tie.Need-array-read-last Inv-loop μ-loop
+array-read-last c = omega arith
 
 loop-holds : tie.Need-loop-holds Inv-loop μ-loop
-loop-holds c = tab-start _ refl
+loop-holds c = rows-start
 
-near-requires : tie.Need-near-requires Inv-loop μ-loop
-near-requires c κs = (subst (λ (z : ℤ). natAbs z ≤ 1000000) (sym (x-is (c .before))) (S (c .before) .pre .1), omega arith)
+mul-start : tie.Need-mul-start Inv-loop μ-loop
+mul-start c = omega arith
 
-near-requires-2 : tie.Need-near-requires-2 Inv-loop μ-loop
-near-requires-2 c κs = (subst (λ (z : ℤ). natAbs z ≤ 1000000) (sym (y-is (c .before .before))) (S (c .before .before) .pre .2), omega arith)
+array-read-start : tie.Need-array-read-start Inv-loop μ-loop
+array-read-start c = omega arith
 
-sample-at-requires : tie.Need-sample-at-requires Inv-loop μ-loop
-sample-at-requires c κs = c .before .before .before .before .before .before .before .pre .0
+mul-start-2 : tie.Need-mul-start-2 Inv-loop μ-loop
+mul-start-2 c = omega (arith, inside (c .before .before) (c .before .loop .j) 0 (c .loop-test .taken) (omega arith))
 
-mul-samples : tie.Need-mul-samples Inv-loop μ-loop
-mul-samples c = omega arith
+add-if3 : tie.Need-add-if3 Inv-loop μ-loop
+add-if3 c = omega (arith, inside (c .before .before) (c .before .loop .j) 0 (c .loop-test .taken) (omega arith))
 
-array-write-samples : tie.Need-array-write-samples Inv-loop μ-loop
-array-write-samples c = omega arith
+mul-lay-run : tie.Need-mul-lay-run Inv-loop μ-loop
+mul-lay-run c = omega arith
 
-add-k : tie.Need-add-k Inv-loop μ-loop
-add-k c = omega arith
+add-lay-run : tie.Need-add-lay-run Inv-loop μ-loop
+add-lay-run c =
+    let a = c .before .before .before in
+    omega (arith, inside (a .before) (a .loop .j) 0 (c .before .before .loop-test .taken) (omega arith))
+
+lay-run-requires : tie.Need-lay-run-requires Inv-loop μ-loop
+lay-run-requires c κs =
+    let a = c .before .before .before in
+    (a .loop .inv .long, omega arith, omega (arith, c .before .if3 .taken, inside (a .before) (a .loop .j) 16 (c .before .before .loop-test .taken) (omega arith)))
+
+mul-lay : tie.Need-mul-lay Inv-loop μ-loop
+mul-lay c = omega arith
+
+lay-requires : tie.Need-lay-requires Inv-loop μ-loop
+lay-requires c κs =
+    let a = c .before .before .before .before in
+    (a .loop .inv .long, omega arith, λ i h. inside (a .before) (a .loop .j) i (c .before .before .before .loop-test .taken) h)
+
+add-j : tie.Need-add-j Inv-loop μ-loop
+add-j c = omega arith
 
 loop-less : tie.Need-loop-less Inv-loop μ-loop
 loop-less c = omega arith
 
 loop-again : tie.Need-loop-again Inv-loop μ-loop
 loop-again c =
-    let d = c .before .before .before in
-    let s = S (d .before) in
-    let n = d .before .loop .k in
-    let x = held (getD (s .args .t5) 0 (pos 0)) in
-    let y = held (getD (s .args .t5) 1 (pos 0)) in
-    tab-put (d .before .loop .inv) (d .loop-test .taken)
-    (c .sample-at .ensures
-    ∙ ap (λ (z : ℤ). sample (now (s .args .pixels)) (s .args .width) (s .args .height) (s .args .origin) z (held (c .before .near2 .result)))
-    (moved (c .before .before .near .result) x (n % 17) (c .before .before .near .ensures) (subst (λ (z : ℤ). natAbs z ≤ 1000000) (sym (x-is (d .before))) (s .pre .1)) (omega arith))
-    ∙ ap (λ (z : ℤ). sample (now (s .args .pixels)) (s .args .width) (s .args .height) (s .args .origin) (x +ℤ (pos (n % 17) -ℤ pos 8)) z)
-    (moved (c .before .near2 .result) y (n / 17) (c .before .near2 .ensures) (subst (λ (z : ℤ). natAbs z ≤ 1000000) (sym (y-is (d .before))) (s .pre .2)) (omega arith)))
+    let a = c .before .before in
+    let d = a .before in
+    let s = S d .args in
+    let xs = d .before .before .before .nearby .result in
+    let ys = d .nearby2 .result in
+    row-laid (now (s .pixels)) (s .width) xs ys _ refl (a .loop .inv) (c .before .loop-test .taken)
+    (⊎-elim
+    (λ w. (w .3 ∙ w .2 .ensures ∙ ap (laid (a .loop .samples) (a .loop .j * 17))
+    (run-is (now (s .pixels)) (s .width) (s .height) (s .t4) (s .t5) xs ys (columns-are d) (rows-are d) (d .before .before .before .before .before .before .before .if1 .left) (d .before .before .before .before .before .before .if2 .left) (w .0 .taken) (a .loop .j))))
+    (λ w. w .4 ∙ w .3 .ensures)
+    (c .if3 .came))
 
-returns : tie.Need-returns Inv-loop μ-loop
-returns c =
-    let s = S (c .before) .args in
-    tab-end (c .before .loop .inv) (c .loop-test .left) ∙ same-centre (now (s .pixels)) (s .width) (s .height) (s .origin) (x-is (c .before)) (y-is (c .before))
+returns-3 : tie.Need-returns-3 Inv-loop μ-loop
+returns-3 c =
+    let d = c .before .before in
+    let s = S d .args in
+    tile-is (now (s .pixels)) (s .width) (s .height) (s .t4) (s .t5) (d .before .before .before .nearby .result) (d .nearby2 .result) (columns-are d) (rows-are d)
+    (d .before .before .before .before .before .before .before .if1 .left) (d .before .before .before .before .before .before .if2 .left) refl (c .before .loop .inv) (c .loop-test .left)
 
 pub load-spec : {M : Type 1} → statement M
 load-spec =
@@ -101,15 +147,29 @@ load-spec =
     (tie.spec
     Inv-loop
     μ-loop
-    array-copy-out-cx
-    array-copy-out-cy
+    returns
+    returns-2
+    array-copy-out-nearby
+    array-copy-out-nearby-2
+    sub-nearby
+    nearby-requires
+    array-copy-out-nearby-3
+    array-copy-out-nearby-4
+    sub-nearby-2
+    nearby-requires-2
+    array-read-first
+    array-read-last
     loop-holds
-    near-requires
-    near-requires-2
-    sample-at-requires
-    mul-samples
-    array-write-samples
-    add-k
+    mul-start
+    array-read-start
+    mul-start-2
+    add-if3
+    mul-lay-run
+    add-lay-run
+    lay-run-requires
+    mul-lay
+    lay-requires
+    add-j
     loop-less
     loop-again
-    returns)
+    returns-3)
