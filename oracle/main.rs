@@ -121,6 +121,7 @@ impl Run {
                     times += 1;
                 }
                 let (got, want) = (ours(&input), theirs(&input));
+                self.tell_counts();
                 println!("compare: {} {what}({}) is {}, the original's {}", self.topic, input.shown(), got.shown(), want.shown());
                 println!("compare: seed {}, turn {}, after {n} that agree, made smaller {times} times", self.seed, self.turn);
                 exit(1);
@@ -149,6 +150,12 @@ impl Run {
     /// Adds to a count that is printed at the end.
     pub fn count(&mut self, what: &str, n: u64) {
         *self.counts.entry(format!("{} {what}", self.topic)).or_default() += n;
+    }
+
+    fn tell_counts(&self) {
+        for (what, n) in &self.counts {
+            println!("compare: {what}: {n}");
+        }
     }
 
     fn progress(&mut self, what: &str, n: u64) {
@@ -246,9 +253,7 @@ fn main() {
     let now = Instant::now();
     let mut run = Run { limit, seed, turn, topic: "", began: now, told: now, compared: 0, counts: BTreeMap::new() };
     run.turns(&chosen);
-    for (what, n) in &run.counts {
-        println!("compare: {what}: {n}");
-    }
+    run.tell_counts();
     let (turns, compared) = (run.turn + 1 - turn, run.compared);
     println!("compare: no difference, seed {seed}, {turns} turns, {compared} inputs, {:.1} s", now.elapsed().as_secs_f64());
 }

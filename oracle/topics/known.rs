@@ -68,7 +68,8 @@ fn counters(run: &mut Run) {
     }
 }
 
-/// Sorting the eight largest squared gradients moves a width by at most four units in the last place.
+/// Sorting the eight largest squared gradients moves a width by at most 18 units in the last place: seven sums, a product and a
+/// quotient round on either side.
 fn widths(run: &mut Run) {
     let mut random = run.random("widths");
     let mut moved = 0;
@@ -85,7 +86,7 @@ fn widths(run: &mut Run) {
         let sorted = sorted::edge_width(&view, *centre, &mut Default::default());
         let [plain, sorted] = [plain, sorted].map(|width| width.map_or(i64::MIN, |width| width.to_bits().into()));
         moved += u64::from(plain != sorted);
-        plain.abs_diff(sorted) <= 4
+        plain.abs_diff(sorted) <= 18
     };
     run.same("widths", calls, near, |_| true);
     run.count("widths that sorting moves", moved);
