@@ -5,3 +5,4 @@ pub mod Largests
 pub mod Wholes
 pub mod Sums
 pub mod Extremes
+pub mod Means

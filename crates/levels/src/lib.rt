@@ -1,13 +1,13 @@
 // The levels of 81 values and the mean of the largest of 81 gradients: uncertainty.rs, parts of `PixelTile::edge_width`.
 ghost use mathlib.Core.Path.{_≡_};
-ghost use Prim.Native.Nat.{_≤_, max};
+ghost use Prim.Native.Nat.{_^_, _≤_, max};
 ghost use mathlib.Core.List.{map};
 ghost use lib.Dec.{T};
 ghost use lib.ListN.{length, drop};
 ghost use lib.Ieee.{binary32, sub, div, le};
 ghost use Rattle.ieee.specs.Sqrt.{sqrt};
 ghost use Rattle.quantile.specs.Rising.{inserted, Rises};
-ghost use Rattle.levels.specs.Whole.{whole};
+ghost use Rattle.levels.specs.Whole.{whole, Upto, AllUpto};
 ghost use Rattle.levels.specs.Kept.{kept};
 ghost use Rattle.levels.specs.Clear.{clear, AllClear};
 ghost use Rattle.levels.specs.Levels as Levels;
@@ -46,29 +46,38 @@ fn lowest(values: &[f32; 81]) -> f32
     least
 }
 
-// sum over n, or over 1 where n is 0.
-fn mean(sum: f32, n: u32) -> f32
-    requires { ⌜ n ≤ 81 ⌝ }
-    ensures { λ r. ⌜ r ≡ div binary32 sum (whole (max n 1)) ⌝ }
+// v, which is a whole number.
+fn number(v: f32) -> u32
+    requires { ⌜ Upto 65280 v ⌝ }
+    ensures { λ r. ⌜ (v ≡ whole r) × (r ≤ 65280) ⌝ }
 {
-    if n == 0 {
-        return sum / 1.0;
-    }
-    sum / n as f32
+    (v as i32) as u32
 }
 
-// The mean of the values from the cut up.
+// sum over n, or over 1 where n is 0.
+fn mean(sum: u32, n: u32) -> f32
+    requires { ⌜ (sum ≤ 2 ^ 24) × (n ≤ 81) ⌝ }
+    ensures { λ r. ⌜ r ≡ div binary32 (whole sum) (whole (max n 1)) ⌝ }
+{
+    let total = sum as f32;
+    if n == 0 {
+        return total / 1.0;
+    }
+    total / n as f32
+}
+
+// The mean of the values from the cut up. They are added as whole numbers, as f32 would add them.
 fn mean_from(values: &[f32; 81], cut: f32) -> f32
-    requires { ⌜ length (now values) ≡ 81 ⌝ }
+    requires { ⌜ AllUpto 65280 (now values) ⌝ }
     ensures { λ r. ⌜ r ≡ Levels.mean (kept (λ v. le cut v) (now (values .entry))) ⌝ }
 {
-    let mut sum = 0.0f32;
+    let mut sum: u32 = 0;
     let mut n: u32 = 0;
     let mut m = 0;
     while m < 81 {
         let v = values[m];
         if v >= cut {
-            sum = sum + v;
+            sum += number(v);
             n += 1;
         }
         m += 1;
@@ -78,16 +87,16 @@ fn mean_from(values: &[f32; 81], cut: f32) -> f32
 
 // The mean of the values up to the cut.
 fn mean_upto(values: &[f32; 81], cut: f32) -> f32
-    requires { ⌜ length (now values) ≡ 81 ⌝ }
+    requires { ⌜ AllUpto 65280 (now values) ⌝ }
     ensures { λ r. ⌜ r ≡ Levels.mean (kept (λ v. le v cut) (now (values .entry))) ⌝ }
 {
-    let mut sum = 0.0f32;
+    let mut sum: u32 = 0;
     let mut n: u32 = 0;
     let mut m = 0;
     while m < 81 {
         let v = values[m];
         if v <= cut {
-            sum = sum + v;
+            sum += number(v);
             n += 1;
         }
         m += 1;
@@ -97,7 +106,7 @@ fn mean_upto(values: &[f32; 81], cut: f32) -> f32
 
 // The contrast of the disk: its high level less its low level.
 pub fn contrast(values: &[f32; 81]) -> f32
-    requires { ⌜ length (now values) ≡ 81 ⌝ }
+    requires { ⌜ AllUpto 65280 (now values) ⌝ }
     ensures { λ r. ⌜ r ≡ sub binary32 (Levels.highLevel (now (values .entry))) (Levels.lowLevel (now (values .entry))) ⌝ }
 {
     let most = highest(values);

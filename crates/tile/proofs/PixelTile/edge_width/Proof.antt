@@ -1,6 +1,6 @@
 -- The steps put together; the gradients of whole numbers are clear, so that the eight largest are theirs.
 use borrow.Author.Needs.{needs}
-use Rattle.tile.proofs.Edges.{grads-clear, flat-is, width-is}
+use Rattle.tile.proofs.Edges.{grads-clear, vals-upto, flat-is, width-is}
 use Rattle.tile.proofs.PixelTile.edge_width.Statement.{statement}
 use Rattle.tile.proofs.PixelTile.edge_width.Tie as tie
 
@@ -24,7 +24,12 @@ values-requires : tie.Need-values-requires
 values-requires c κs = search needs
 
 contrast-requires : tie.Need-contrast-requires
-contrast-requires c κs = search needs
+contrast-requires c κs =
+    let b = c .before .before .before .before .before .before in
+    let d = b .before .before .before .before in
+    let s = d .before .before .before in
+    vals-upto (s .args .t1 .samples) (d .down .result) (b .before .before .across .result) (b .gradients .result) (d .down .ensures) (b .before .before .across .ensures) (b .gradients .ensures) (s .pre)
+    (c .before .values .result) (c .before .values .ensures)
 
 returns : tie.Need-returns
 returns c =
