@@ -1,7 +1,7 @@
 // The levels of 81 values and the mean of the largest of 81 gradients: uncertainty.rs, parts of `PixelTile::edge_width`.
 ghost use mathlib.Core.Path.{_≡_};
-ghost use Prim.Native.Nat.{_^_, _≤_, max};
-ghost use mathlib.Core.List.{map};
+ghost use Prim.Native.Nat.{_^_, _≤_, max, min};
+ghost use mathlib.Core.List.{[], _∷_, map};
 ghost use lib.Dec.{T};
 ghost use lib.ListN.{length, drop};
 ghost use lib.Ieee.{binary32, sub, div, le};
@@ -14,44 +14,42 @@ ghost use Rattle.levels.specs.Levels as Levels;
 ghost use Rattle.levels.specs.Steepness as Steepness;
 ghost use Rattle.levels.specs.Slide as Slide;
 
-fn highest(values: &[f32; 81]) -> f32
-    requires { ⌜ length (now values) ≡ 81 ⌝ }
-    ensures { λ r. ⌜ r ≡ Levels.highest (now (values .entry)) ⌝ }
-{
-    let mut most = -1.0f32 / 0.0;
-    let mut m = 0;
-    while m < 81 {
-        let v = values[m];
-        if most < v {
-            most = v;
-        }
-        m += 1;
-    }
-    most
-}
-
-fn lowest(values: &[f32; 81]) -> f32
-    requires { ⌜ length (now values) ≡ 81 ⌝ }
-    ensures { λ r. ⌜ r ≡ Levels.lowest (now (values .entry)) ⌝ }
-{
-    let mut least = 1.0f32 / 0.0;
-    let mut m = 0;
-    while m < 81 {
-        let v = values[m];
-        if v < least {
-            least = v;
-        }
-        m += 1;
-    }
-    least
-}
-
 // v, which is a whole number.
 fn number(v: f32) -> u32
     requires { ⌜ Upto 65280 v ⌝ }
     ensures { λ r. ⌜ (v ≡ whole r) × (r ≤ 65280) ⌝ }
 {
     (v as i32) as u32
+}
+
+fn larger(a: u32, b: u32) -> u32
+    ensures { λ r. ⌜ r ≡ max a b ⌝ }
+{
+    if a < b { b } else { a }
+}
+
+fn smaller(a: u32, b: u32) -> u32
+    ensures { λ r. ⌜ r ≡ min a b ⌝ }
+{
+    if b < a { b } else { a }
+}
+
+// The highest and the lowest value, in one loop without a jump on them.
+fn extremes(values: &[f32; 81]) -> [f32; 2]
+    requires { ⌜ AllUpto 65280 (now values) ⌝ }
+    ensures { λ r. ⌜ r ≡ (Levels.highest (now (values .entry)) ∷ Levels.lowest (now (values .entry)) ∷ []) ⌝ }
+{
+    let first = number(values[0]);
+    let mut most = first;
+    let mut least = first;
+    let mut m = 1;
+    while m < 81 {
+        let n = number(values[m]);
+        most = larger(most, n);
+        least = smaller(least, n);
+        m += 1;
+    }
+    [most as f32, least as f32]
 }
 
 // sum over n, or over 1 where n is 0.
@@ -109,8 +107,9 @@ pub fn contrast(values: &[f32; 81]) -> f32
     requires { ⌜ AllUpto 65280 (now values) ⌝ }
     ensures { λ r. ⌜ r ≡ sub binary32 (Levels.highLevel (now (values .entry))) (Levels.lowLevel (now (values .entry))) ⌝ }
 {
-    let most = highest(values);
-    let least = lowest(values);
+    let e = extremes(values);
+    let most = e[0];
+    let least = e[1];
     let band = 0.2 * (most - least);
     mean_from(values, most - band) - mean_upto(values, least + band)
 }
