@@ -13,11 +13,12 @@ use Rattle.laws.proofs.Choice.{cond-both}
 use Rattle.imageview.specs.Sample.{pixel}
 use Rattle.imageview.specs.Limits.{tooLarge, misfit, imageNumber, far, farPlace}
 use Rattle.levels.specs.Whole.{Upto}
-use Rattle.tile.specs.Tile.{tile, inRows, read}
-use Rattle.tile.specs.Smoothing.{smoothed}
+use Rattle.disk.specs.Rows.{inRows, read}
+use Rattle.disk.specs.Smoothing.{smoothed}
+use Rattle.tile.specs.Tile.{tile}
 use Rattle.tile.specs.Width.{Answer, number, edgeOf}
 use Rattle.levels.proofs.Folds.{getD-from}
-use Rattle.tile.proofs.Places.{read-rows, smooth-same}
+use Rattle.disk.proofs.Places.{read-rows, smooth-same}
 use Rattle.tile.proofs.Edges.{edge-same}
 use Rattle.edge.specs.Edge.{edge}
 

@@ -5,8 +5,8 @@ use mathlib.Core.List.{List}
 use lib.ListN.{length}
 use lib.IntN.{ℤ}
 use Rattle.imageview.specs.Limits.{tooLarge, misfit, farPlace}
+use Rattle.disk.specs.Smoothing.{smoothed}
 use Rattle.tile.specs.Tile.{tile}
-use Rattle.tile.specs.Smoothing.{smoothed}
 use Rattle.tile.specs.Width.{Answer, number, edgeOf}
 
 unfoldable pub edge : List ℕ → ℕ → ℕ → List ℤ → List ℤ → Answer
