@@ -113,29 +113,27 @@ fn along(values: &[f32], k: usize, stride: usize) -> f32
 }
 
 // Down the columns: 13 rows of 17.
-pub fn down(tile: &[f32; 289]) -> [f32; 221]
-    ensures { λ r. ⌜ r ≡ inRows (Smoothing.down (read (now (tile .entry)))) 221 ⌝ }
+pub fn down(tile: &[f32; 289], out: &mut [f32; 221])
+    requires { ⌜ length (now out) ≡ 221 ⌝ }
+    ensures { λ _. ⌜ now (out .exit) ≡ inRows (Smoothing.down (read (now (tile .entry)))) 221 ⌝ }
 {
-    let mut out = [0.0f32; 221];
     let mut k = 0;
     while k < 221 {
         out[k] = along(tile, k, 17);
         k += 1;
     }
-    out
 }
 
 // Across the rows: 13 rows, of which the first 13 columns are whole.
-pub fn across(rows: &[f32; 221]) -> [f32; 217]
-    ensures { λ r. ⌜ r ≡ inRows (Smoothing.across (read (now (rows .entry)))) 217 ⌝ }
+pub fn across(rows: &[f32; 221], out: &mut [f32; 217])
+    requires { ⌜ length (now out) ≡ 217 ⌝ }
+    ensures { λ _. ⌜ now (out .exit) ≡ inRows (Smoothing.across (read (now (rows .entry)))) 217 ⌝ }
 {
-    let mut out = [0.0f32; 217];
     let mut k = 0;
     while k < 217 {
         out[k] = along(rows, k, 1);
         k += 1;
     }
-    out
 }
 
 fn wide(x: u8) -> usize
@@ -160,11 +158,11 @@ pub fn values(smooth: &[f32; 217]) -> [f32; 81]
 }
 
 // The disk's squared gradients.
-pub fn gradients(smooth: &[f32; 217]) -> [f32; 81]
-    ensures { λ r. ⌜ r ≡ Gradients.gradients (read (now (smooth .entry))) ⌝ }
+pub fn gradients(smooth: &[f32; 217], out: &mut [f32; 81])
+    requires { ⌜ length (now out) ≡ 81 ⌝ }
+    ensures { λ _. ⌜ now (out .exit) ≡ Gradients.gradients (read (now (smooth .entry))) ⌝ }
 {
     let table = EDGE_DISK;
-    let mut out = [0.0f32; 81];
     let mut m = 0;
     while m < 81 {
         let i = wide(table[m]);
@@ -173,5 +171,4 @@ pub fn gradients(smooth: &[f32; 217]) -> [f32; 81]
         out[m] = gx * gx + gy * gy;
         m += 1;
     }
-    out
 }

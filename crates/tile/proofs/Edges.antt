@@ -2,22 +2,23 @@
 use mathlib.Core.Path.{_≡_, refl, sym, ap, _∙_, subst}
 use mathlib.Core.Bool.{Bool, true, false, cond}
 use mathlib.Core.List.{List}
-use Prim.Native.Nat.{ℕ, _+_, _*_, _≤_, _<_}
+use Prim.Native.Nat.{ℕ, _+_, _*_, _/_, _%_, _≤_, _<_}
 use native.Mathlib.Omega.{arith}
-use lib.ListN.{getD}
+use lib.ListN.{length, getD, length-map}
 use lib.Ieee.{Float, nan, binary32, sub, mul, div, lt, ofBits}
 use Rattle.laws.proofs.Choice.{chosen, passed}
 use Rattle.levels.specs.Whole.{whole, Upto, AllUpto}
 use Rattle.levels.specs.Clear.{AllClear}
 use Rattle.disk.specs.Rows.{inRows, read}
 use Rattle.disk.specs.Smoothing.{down, across, smoothed}
-use Rattle.disk.specs.Gradients.{values, gradients}
+use Rattle.disk.specs.Disk.{disk}
+use Rattle.disk.specs.Gradients.{values, squaredAt, gradients}
 use Rattle.levels.specs.Levels.{highLevel, lowLevel}
 use Rattle.tile.specs.Width.{Answer, width, number, rootTwoPi, edgeOf}
 use Rattle.levels.specs.Steepness.{steepness}
 use Rattle.levels.proofs.Constants.{zero-is}
 use Rattle.tile.proofs.Constants.{root-is}
-use Rattle.disk.proofs.Places.{Agree, values-same, gradients-same, smooth-read}
+use Rattle.disk.proofs.Places.{disk-long, Agree, values-same, gradients-same, smooth-read}
 use Rattle.disk.proofs.Smoothed.{smooth-upto, gradients-clear, values-upto}
 
 -- squares that agree on 13 rows of 13 have the same answer
@@ -27,6 +28,9 @@ edge-same s t h = rw (gradients-same s t h, values-same s t h) refl
 module _ (samples rows smooth grads : List Float) (p : rows ≡ inRows (down (read samples)) 221) (q : smooth ≡ inRows (across (read rows)) 217) (r : grads ≡ gradients (read smooth)) where
   grads-are : grads ≡ gradients (smoothed (read samples))
   grads-are = r ∙ gradients-same (read smooth) (smoothed (read samples)) (smooth-read (read samples) rows smooth p q)
+
+  pub grads-long : length grads ≡ 81
+  grads-long = ap length r ∙ length-map disk (λ k. squaredAt (read smooth) (k / 17) (k % 17)) ∙ disk-long
 
   vals-are : (vals : List Float) → vals ≡ values (read smooth) → vals ≡ values (smoothed (read samples))
   vals-are vals v = v ∙ values-same (read smooth) (smoothed (read samples)) (smooth-read (read samples) rows smooth p q)

@@ -18,7 +18,7 @@ abbrev μ-loop : tie.MeasureT-loop
 μ-loop rows out₀ k₀ out k = 217 - k
 
 loop-holds : tie.Need-loop-holds Inv-loop μ-loop
-loop-holds c = tab-start _ refl
+loop-holds c = tab-start _ (c .pre)
 
 along-requires : tie.Need-along-requires Inv-loop μ-loop
 along-requires c κs = search needs
@@ -26,8 +26,8 @@ along-requires c κs = search needs
 mul-out : tie.Need-mul-out Inv-loop μ-loop
 mul-out c = omega arith
 
-array-write-out : tie.Need-array-write-out Inv-loop μ-loop
-array-write-out c = omega arith
+element-write-out : tie.Need-element-write-out Inv-loop μ-loop
+element-write-out c = omega arith
 
 add-k : tie.Need-add-k Inv-loop μ-loop
 add-k c = omega arith
@@ -52,7 +52,7 @@ across-spec =
     loop-holds
     along-requires
     mul-out
-    array-write-out
+    element-write-out
     add-k
     loop-less
     loop-again
