@@ -9,7 +9,7 @@ use lib.Dec.{T}
 use lib.ListN.{length, getD, length-map}
 use lib.Ieee.{Float, nan, binary32, add, sub, mul, isNan}
 use lib.Ieee.Exact.{HasValue}
-use Rattle.levels.specs.Whole.{whole, Upto}
+use Rattle.levels.specs.Whole.{whole, Upto, AllUpto}
 use Rattle.levels.specs.Clear.{clear, AllClear}
 use Rattle.levels.specs.Kept.{kept}
 use Rattle.levels.specs.Levels.{total}
@@ -92,17 +92,18 @@ kept-few p (x ∷ l) = go (p x) (kept-few p l)
     go true h = omega arith
     go false h = omega arith
 
-pub sums-exact : (s : ℕ → ℕ → Float) → ((y x : ℕ) → y ≤ 12 → x ≤ 12 → Upto 65280 (s y x)) → (p : Float → Bool)
-    → (numbers : List ℕ) × (kept p (values s) ≡ map whole numbers) × (addUp numbers ≤ 2 ^ 24) × (total (kept p (values s)) ≡ whole (addUp numbers))
-sums-exact s h p =
-    let r = summed p (values s) (λ k g. at k (omega (arith, g, values-long))) in
-    let few : addUp (r .numbers) ≤ 2 ^ 24 = omega (arith, r .few, mul-le-mul-right 65280 (kept-few p (values s)), values-long) in
-    (r .numbers, r .are, few, ap total (r .are) ∙ total-exact (r .numbers) few)
+pub values-upto : (s : ℕ → ℕ → Float) → ((y x : ℕ) → y ≤ 12 → x ≤ 12 → Upto 65280 (s y x)) → AllUpto 65280 (values s)
+values-upto s h = record { each = at; long = length-map disk (λ k. s (k / 17) (k % 17)) ∙ disk-long }
   where
-    values-long : length (values s) ≡ 81
-    values-long = length-map disk (λ k. s (k / 17) (k % 17)) ∙ disk-long
-
     at : (m : ℕ) → m < 81 → Upto 65280 (getD (values s) m nan)
     at m l =
         let q = place-inner m l in
         subst (λ (z : Float). Upto 65280 z) (sym (getD-map (λ k. s (k / 17) (k % 17)) 0 nan disk m (omega (arith, disk-long)))) (h (getD disk m 0 / 17) (getD disk m 0 % 17) (omega arith) (omega arith))
+
+pub sums-exact : (s : ℕ → ℕ → Float) → ((y x : ℕ) → y ≤ 12 → x ≤ 12 → Upto 65280 (s y x)) → (p : Float → Bool)
+    → (numbers : List ℕ) × (kept p (values s) ≡ map whole numbers) × (addUp numbers ≤ 2 ^ 24) × (total (kept p (values s)) ≡ whole (addUp numbers))
+sums-exact s h p =
+    let v = values-upto s h in
+    let r = summed p (values s) (λ k g. v .each k (omega (arith, g, v .long))) in
+    let few : addUp (r .numbers) ≤ 2 ^ 24 = omega (arith, r .few, mul-le-mul-right 65280 (kept-few p (values s)), v .long) in
+    (r .numbers, r .are, few, ap total (r .are) ∙ total-exact (r .numbers) few)

@@ -1,5 +1,7 @@
 // A square of samples smoothed, and the values and gradients on its disk.
 ghost use mathlib.Core.Path.{_≡_};
+ghost use Prim.Native.Nat.{_+_, _*_, _<_};
+ghost use lib.ListN.{length};
 ghost use Rattle.disk.specs.Rows.{inRows, read};
 ghost use Rattle.disk.specs.Smoothing as Smoothing;
 ghost use Rattle.disk.specs.Gradients as Gradients;
@@ -96,36 +98,42 @@ fn binomial(a: f32, b: f32, c: f32, d: f32, e: f32) -> f32
     (a + e) + 4.0 * (b + d) + 6.0 * c
 }
 
-// Down the columns: 13 rows of 17.
-pub fn down(tile: &[f32; 289]) -> [f32; 221]
-    ensures { λ r. ⌜ r ≡ inRows (Smoothing.down (read (now (tile .entry)))) 221 ⌝ }
+// The same over the five values from place k on, each a stride after the one before.
+fn along(values: &[f32], k: usize, stride: usize) -> f32
+    requires { ⌜ k + 4 * stride < length (now values) ⌝ }
+    ensures { λ r. ⌜ r ≡ Smoothing.along (now (values .entry)) k stride ⌝ }
 {
-    let mut out = [0.0f32; 221];
+    binomial(
+        values[k],
+        values[k + stride],
+        values[k + 2 * stride],
+        values[k + 3 * stride],
+        values[k + 4 * stride],
+    )
+}
+
+// Down the columns: 13 rows of 17.
+pub fn down(tile: &[f32; 289], out: &mut [f32; 221])
+    requires { ⌜ length (now out) ≡ 221 ⌝ }
+    ensures { λ _. ⌜ now (out .exit) ≡ inRows (Smoothing.down (read (now (tile .entry)))) 221 ⌝ }
+{
     let mut k = 0;
     while k < 221 {
-        out[k] = binomial(
-            tile[k],
-            tile[k + 17],
-            tile[k + 34],
-            tile[k + 51],
-            tile[k + 68],
-        );
+        out[k] = along(tile, k, 17);
         k += 1;
     }
-    out
 }
 
 // Across the rows: 13 rows, of which the first 13 columns are whole.
-pub fn across(rows: &[f32; 221]) -> [f32; 217]
-    ensures { λ r. ⌜ r ≡ inRows (Smoothing.across (read (now (rows .entry)))) 217 ⌝ }
+pub fn across(rows: &[f32; 221], out: &mut [f32; 217])
+    requires { ⌜ length (now out) ≡ 217 ⌝ }
+    ensures { λ _. ⌜ now (out .exit) ≡ inRows (Smoothing.across (read (now (rows .entry)))) 217 ⌝ }
 {
-    let mut out = [0.0f32; 217];
     let mut k = 0;
     while k < 217 {
-        out[k] = binomial(rows[k], rows[k + 1], rows[k + 2], rows[k + 3], rows[k + 4]);
+        out[k] = along(rows, k, 1);
         k += 1;
     }
-    out
 }
 
 fn wide(x: u8) -> usize
@@ -150,11 +158,11 @@ pub fn values(smooth: &[f32; 217]) -> [f32; 81]
 }
 
 // The disk's squared gradients.
-pub fn gradients(smooth: &[f32; 217]) -> [f32; 81]
-    ensures { λ r. ⌜ r ≡ Gradients.gradients (read (now (smooth .entry))) ⌝ }
+pub fn gradients(smooth: &[f32; 217], out: &mut [f32; 81])
+    requires { ⌜ length (now out) ≡ 81 ⌝ }
+    ensures { λ _. ⌜ now (out .exit) ≡ Gradients.gradients (read (now (smooth .entry))) ⌝ }
 {
     let table = EDGE_DISK;
-    let mut out = [0.0f32; 81];
     let mut m = 0;
     while m < 81 {
         let i = wide(table[m]);
@@ -163,5 +171,4 @@ pub fn gradients(smooth: &[f32; 217]) -> [f32; 81]
         out[m] = gx * gx + gy * gy;
         m += 1;
     }
-    out
 }

@@ -9,17 +9,18 @@ use lib.Dec.{eqb}
 use lib.ListN.{length, getD}
 use lib.IntN.{ℤ, pos, natAbs}
 use lib.Ieee.{Float, nan}
-use Rattle.laws.proofs.Choice.{cond-both}
+use Rattle.laws.proofs.Choice.{cond-both, chosen}
 use Rattle.imageview.specs.Sample.{pixel}
 use Rattle.imageview.specs.Limits.{tooLarge, misfit, imageNumber, far, farPlace}
 use Rattle.levels.specs.Whole.{Upto}
-use Rattle.tile.specs.Tile.{tile, inRows, read}
-use Rattle.tile.specs.Smoothing.{smoothed}
+use Rattle.disk.specs.Rows.{inRows, read}
+use Rattle.disk.specs.Smoothing.{smoothed}
+use Rattle.tile.specs.Tile.{tile}
 use Rattle.tile.specs.Width.{Answer, number, edgeOf}
 use Rattle.levels.proofs.Folds.{getD-from}
-use Rattle.tile.proofs.Places.{read-rows, smooth-same}
+use Rattle.disk.proofs.Places.{read-rows, smooth-same}
 use Rattle.tile.proofs.Edges.{edge-same}
-use Rattle.edge.specs.Edge.{edge}
+use Rattle.edge.specs.Edge.{measured, edge}
 
 -- a place that is not far off
 pub near : (p : List ℤ) → farPlace p ≡ false → (natAbs (getD p 0 (pos 0)) ≤ 1000000) × (natAbs (getD p 1 (pos 0)) ≤ 1000000)
@@ -32,13 +33,12 @@ near p h = go (far (getD p 0 (pos 0))) refl h
 module _ (l : List ℕ) (w h : ℕ) (origin centre : List ℤ) {r : ℕ} (e : r ≡ imageNumber (length l) w h) where
   pub refused-is : (r ≡ 0 → ⊥) → number r ≡ edge l w h origin centre
   unfolding edge
-  refused-is n = go (tooLarge w h) (misfit (length l) w h) e
+  refused-is n = go (tooLarge w h) (misfit (length l) w h) refl refl
     where
-      go : (t m : Bool) → r ≡ cond t 1 (cond m 2 0)
-          → number r ≡ cond t (number 1) (cond m (number 2) (cond (farPlace centre || farPlace origin) (number 8) (edgeOf (smoothed (tile l w h origin centre)))))
-      go true m e = ap number e
-      go false true e = ap number e
-      go false false e = absurd (n e)
+      go : (t m : Bool) → tooLarge w h ≡ t → misfit (length l) w h ≡ m → number r ≡ edge l w h origin centre
+      go true m p q = rw p (ap number (rw p at e))
+      go false true p q = rw (p, q) (ap number (rw (p, q) at e))
+      go false false p q = absurd (n (rw (p, q) at e))
 
   module _ (z : r ≡ 0) where
     fitting : (tooLarge w h ≡ false) × (misfit (length l) w h ≡ false)
@@ -59,11 +59,11 @@ module _ (l : List ℕ) (w h : ℕ) (origin centre : List ℤ) {r : ℕ} (e : r 
     module _ (n : farPlace centre ≡ false) where
       pub origin-far : farPlace origin ≡ true → number 8 ≡ edge l w h origin centre
       unfolding edge
-      origin-far f = rw (fitting .0, fitting .1, n, f) refl
+      origin-far f = rw (fitting .0, fitting .1, n) (chosen (farPlace origin) (number 8) (measured l w h origin centre) f)
 
       module _ (m : farPlace origin ≡ false) (samples : List Float) (s : samples ≡ inRows (tile l w h origin centre) 289) where
         pub answer-is : edgeOf (smoothed (read samples)) ≡ edge l w h origin centre
-        unfolding edge
+        unfolding measured edge
         answer-is =
             edge-same (smoothed (read samples)) (smoothed (tile l w h origin centre))
             (smooth-same (read samples) (tile l w h origin centre) (λ y x a b. ap (λ (t : List Float). read t y x) s ∙ read-rows (tile l w h origin centre) 289 y x (omega arith) (omega arith)))

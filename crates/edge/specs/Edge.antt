@@ -5,13 +5,17 @@ use mathlib.Core.List.{List}
 use lib.ListN.{length}
 use lib.IntN.{ℤ}
 use Rattle.imageview.specs.Limits.{tooLarge, misfit, farPlace}
+use Rattle.disk.specs.Smoothing.{smoothed}
 use Rattle.tile.specs.Tile.{tile}
-use Rattle.tile.specs.Smoothing.{smoothed}
 use Rattle.tile.specs.Width.{Answer, number, edgeOf}
+
+-- the answer of an image that nothing refuses
+unfoldable pub measured : List ℕ → ℕ → ℕ → List ℤ → List ℤ → Answer
+measured l w h origin centre = edgeOf (smoothed (tile l w h origin centre))
 
 unfoldable pub edge : List ℕ → ℕ → ℕ → List ℤ → List ℤ → Answer
 edge l w h origin centre =
     cond (tooLarge w h) (number 1)
     (cond (misfit (length l) w h) (number 2)
     (cond (farPlace centre || farPlace origin) (number 8)
-    (edgeOf (smoothed (tile l w h origin centre)))))
+    (measured l w h origin centre)))

@@ -102,9 +102,6 @@ module _ (most : Float) (k : Total) (f : Found) where
   pub band-out : (n : ℕ) (var : Float) → f ≡ Variance n var → le var most ≡ false → k ≡ withFound most k f
   band-out n var e t = passed (le var most) (withBand k n var) k t ∙ sym (ap (withFound most k) e)
 
-  pub band-none : f ≡ Missing → k ≡ withFound most k f
-  band-none e = sym (ap (withFound most k) e)
-
 pub count-is : (f : Found) {n : ℕ} {var : Float} → f ≡ Variance n var → countOf f ≡ n
 count-is f e = ap countOf e
 

@@ -249,13 +249,3 @@ module _ {A : Type 0} {rows : ℕ → List A} {out₀ : List A} {m : ℕ} where
   pub rows-end : {to j : ℕ} {out : List A} → Rows rows out₀ m to j out → m ≤ j → out ≡ joined rows 0 m ++ drop to out₀
   rows-end {to} {j} {out} r g =
       end (subst (λ (l : List A). Writing (joined rows 0 m) out₀ to out l) (joined-none rows j m g) (r .writing))
-
-  -- where it came to
-  pub rows-long : {to j : ℕ} {out : List A} → Rows rows out₀ m to j out → m ≤ j → to ≤ length out₀ → to ≡ length (joined rows 0 m)
-  rows-long {to} {j} {out} r g h =
-      omega (
-        arith,
-        length-take to out,
-        r .long,
-        ap length (sym (append-nil (take to out)) ∙ ap (λ (l : List A). take to out ++ l) (sym (joined-none rows j m g)) ∙ r .writing .front),
-      )

@@ -1,7 +1,7 @@
 -- The code's float constants are the numbers that the definitions name, rounded once.
 use mathlib.Core.Path.{_≡_, refl}
-use mathlib.Core.Bool.{true, false}
-use lib.Ieee.{Float, inf, binary32, ofBits, ofInt, round, neg, div}
+use mathlib.Core.Bool.{false}
+use lib.Ieee.{Float, binary32, ofBits, ofInt, round}
 use Rattle.levels.specs.Whole.{whole}
 
 pub zero-is : ofBits binary32 0 ≡ whole 0
@@ -23,7 +23,3 @@ half-is = refl
 pub eight-is : ofBits binary32 0x4100_0000 ≡ whole 8
 unfolding ofBits ofInt
 eight-is = refl
-
-pub minus-infinity-is : div binary32 (neg (ofBits binary32 0x3f80_0000)) (ofBits binary32 0) ≡ inf true
-unfolding ofBits neg div
-minus-infinity-is = refl

@@ -4,4 +4,5 @@ pub mod Contrasts
 pub mod Largests
 pub mod Wholes
 pub mod Sums
-pub mod Extremes
+pub mod Ends
+pub mod Means

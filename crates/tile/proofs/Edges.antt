@@ -2,23 +2,24 @@
 use mathlib.Core.Path.{_≡_, refl, sym, ap, _∙_, subst}
 use mathlib.Core.Bool.{Bool, true, false, cond}
 use mathlib.Core.List.{List}
-use Prim.Native.Nat.{ℕ, _+_, _*_, _≤_, _<_}
+use Prim.Native.Nat.{ℕ, _+_, _*_, _/_, _%_, _≤_, _<_}
 use native.Mathlib.Omega.{arith}
-use lib.ListN.{getD}
+use lib.ListN.{length, getD, length-map}
 use lib.Ieee.{Float, nan, binary32, sub, mul, div, lt, ofBits}
 use Rattle.laws.proofs.Choice.{chosen, passed}
-use Rattle.levels.specs.Whole.{whole, Upto}
+use Rattle.levels.specs.Whole.{whole, Upto, AllUpto}
 use Rattle.levels.specs.Clear.{AllClear}
 use Rattle.disk.specs.Rows.{inRows, read}
 use Rattle.disk.specs.Smoothing.{down, across, smoothed}
-use Rattle.disk.specs.Gradients.{values, gradients}
+use Rattle.disk.specs.Disk.{disk}
+use Rattle.disk.specs.Gradients.{values, squaredAt, gradients}
 use Rattle.levels.specs.Levels.{highLevel, lowLevel}
 use Rattle.tile.specs.Width.{Answer, width, number, rootTwoPi, edgeOf}
 use Rattle.levels.specs.Steepness.{steepness}
 use Rattle.levels.proofs.Constants.{zero-is}
 use Rattle.tile.proofs.Constants.{root-is}
-use Rattle.disk.proofs.Places.{Agree, values-same, gradients-same, smooth-read}
-use Rattle.disk.proofs.Smoothed.{smooth-upto, gradients-clear}
+use Rattle.disk.proofs.Places.{disk-long, Agree, values-same, gradients-same, smooth-read}
+use Rattle.disk.proofs.Smoothed.{smooth-upto, gradients-clear, values-upto}
 
 -- squares that agree on 13 rows of 13 have the same answer
 pub edge-same : (s t : ℕ → ℕ → Float) → Agree s t → edgeOf s ≡ edgeOf t
@@ -28,8 +29,21 @@ module _ (samples rows smooth grads : List Float) (p : rows ≡ inRows (down (re
   grads-are : grads ≡ gradients (smoothed (read samples))
   grads-are = r ∙ gradients-same (read smooth) (smoothed (read samples)) (smooth-read (read samples) rows smooth p q)
 
-  pub grads-clear : ((k : ℕ) → k < 289 → Upto 255 (getD samples k nan)) → AllClear grads
-  grads-clear h = subst AllClear (sym grads-are) (gradients-clear (smoothed (read samples)) (smooth-upto (read samples) (λ y x a b. h (y * 17 + x) (omega arith))))
+  pub grads-long : length grads ≡ 81
+  grads-long = ap length r ∙ length-map disk (λ k. squaredAt (read smooth) (k / 17) (k % 17)) ∙ disk-long
+
+  vals-are : (vals : List Float) → vals ≡ values (read smooth) → vals ≡ values (smoothed (read samples))
+  vals-are vals v = v ∙ values-same (read smooth) (smoothed (read samples)) (smooth-read (read samples) rows smooth p q)
+
+  module _ (h : (k : ℕ) → k < 289 → Upto 255 (getD samples k nan)) where
+    upto : (y x : ℕ) → y ≤ 12 → x ≤ 12 → Upto 65280 (smoothed (read samples) y x)
+    upto = smooth-upto (read samples) (λ y x a b. h (y * 17 + x) (omega arith))
+
+    pub grads-clear : AllClear grads
+    grads-clear = subst AllClear (sym grads-are) (gradients-clear (smoothed (read samples)) upto)
+
+    pub vals-upto : (vals : List Float) → vals ≡ values (read smooth) → AllUpto 65280 vals
+    vals-upto vals v = subst (AllUpto 65280) (sym (vals-are vals v)) (values-upto (smoothed (read samples)) upto)
 
   module _ (g : Float) (e : g ≡ steepness grads) where
     abbrev steep : Float
@@ -49,8 +63,5 @@ module _ (samples rows smooth grads : List Float) (p : rows ≡ inRows (down (re
     width-is vals contrast v c h =
         (λ i. width (div binary32 (contrast-is i) (mul binary32 (root-is i) (g-is i)))) ∙ chosen (lt (whole 0) steep) _ (number 9) (sym test-is ∙ h)
       where
-        vals-are : vals ≡ values (smoothed (read samples))
-        vals-are = v ∙ values-same (read smooth) (smoothed (read samples)) (smooth-read (read samples) rows smooth p q)
-
         contrast-is : contrast ≡ sub binary32 (highLevel (values (smoothed (read samples)))) (lowLevel (values (smoothed (read samples))))
-        contrast-is = c ∙ (λ i. sub binary32 (highLevel (vals-are i)) (lowLevel (vals-are i)))
+        contrast-is = c ∙ (λ i. sub binary32 (highLevel (vals-are vals v i)) (lowLevel (vals-are vals v i)))

@@ -1,4 +1,3 @@
 pub mod Constants
-pub mod Places
 pub mod Edges
 pub mod Loading

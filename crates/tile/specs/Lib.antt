@@ -1,4 +1,3 @@
 pub mod Tile
 pub mod Laid
-pub mod Smoothing
 pub mod Width

@@ -5,7 +5,6 @@ use lib.ListN.{getD}
 use lib.IntN.{ℤ, pos, _+ℤ_, _-ℤ_}
 use lib.Ieee.{Float}
 use Rattle.imageview.specs.Sample.{sample}
-pub use Rattle.disk.specs.Rows.{inRows, read}
 
 -- the sample in row y and column x: row 8 and column 8 are the centre's
 abbrev pub tile : List ℕ → ℕ → ℕ → List ℤ → List ℤ → ℕ → ℕ → Float

@@ -111,9 +111,12 @@ impl PixelTile {
         requires { ⌜ ((k : ℕ) → k < 289 → Upto 255 (getD (self .samples) k nan)) ⌝ }
         ensures { λ r. ⌜ answer r ≡ edgeOf (smoothed (read (self .samples))) ⌝ }
     {
-        let rows = disk::down(&self.samples);
-        let smooth = disk::across(&rows);
-        let on_disk = disk::gradients(&smooth);
+        let mut rows = [0.0f32; 221];
+        disk::down(&self.samples, &mut rows);
+        let mut smooth = [0.0f32; 217];
+        disk::across(&rows, &mut smooth);
+        let mut on_disk = [0.0f32; 81];
+        disk::gradients(&smooth, &mut on_disk);
         let g = levels::steepness(&on_disk);
         if g > 0.0 {
             let v = disk::values(&smooth);

@@ -15,17 +15,17 @@ use Rattle.disk.proofs.gradients.Statement.{statement}
 use Rattle.disk.proofs.gradients.Tie as tie
 
 abbrev Inv-loop : tie.InvT-loop
-Inv-loop smooth table out₀ m₀ out m = Tab (λ i. squaredAt (read smooth) (getD disk i 0 / 17) (getD disk i 0 % 17)) 81 m out
+Inv-loop smooth out₀ table m₀ out m = Tab (λ i. squaredAt (read smooth) (getD disk i 0 / 17) (getD disk i 0 % 17)) 81 m out
 
 abbrev μ-loop : tie.MeasureT-loop
-μ-loop smooth table out₀ m₀ out m = 81 - m
+μ-loop smooth out₀ table m₀ out m = 81 - m
 
 -- what the table holds at m
 spot-at : (c : tie.After-wide Inv-loop μ-loop) → Spot (c .before .before .loop .m) (c .wide .result)
 spot-at c = spot (c .before .before .loop .m) (c .wide .result) (c .before .loop-test .taken) (c .wide .ensures)
 
 loop-holds : tie.Need-loop-holds Inv-loop μ-loop
-loop-holds c = tab-start _ refl
+loop-holds c = tab-start _ (c .pre)
 
 array-read-wide : tie.Need-array-read-wide Inv-loop μ-loop
 array-read-wide c = omega arith
@@ -72,8 +72,8 @@ element-copy-out-gy-2 c = omega (arith, spot-at (c .before .before .before))
 mul-out : tie.Need-mul-out Inv-loop μ-loop
 mul-out c = omega arith
 
-array-write-out : tie.Need-array-write-out Inv-loop μ-loop
-array-write-out c = omega arith
+element-write-out : tie.Need-element-write-out Inv-loop μ-loop
+element-write-out c = omega arith
 
 add-m : tie.Need-add-m Inv-loop μ-loop
 add-m c = omega arith
@@ -111,7 +111,7 @@ gradients-spec =
     mul-gy-2
     element-copy-out-gy-2
     mul-out
-    array-write-out
+    element-write-out
     add-m
     loop-less
     loop-again

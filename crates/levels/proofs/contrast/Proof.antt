@@ -1,18 +1,23 @@
 -- The cuts are a fifth of the range from the highest and the lowest value.
 use mathlib.Core.Path.{_≡_, refl, sym, ap, _∙_}
 use denote.Ref.{now}
-use lib.Ieee.{Float, binary32, sub}
+use mathlib.Core.List.{List}
+use lib.ListN.{getD}
+use lib.Ieee.{Float, nan, binary32, sub}
 use borrow.Author.Needs.{needs}
 use Rattle.levels.specs.Levels.{highLevel, lowLevel}
 use Rattle.levels.proofs.Contrasts.{high-is, low-is}
 use Rattle.levels.proofs.contrast.Statement.{statement}
 use Rattle.levels.proofs.contrast.Tie as tie
 
-highest-requires : tie.Need-highest-requires
-highest-requires c κs = search needs
+extremes-requires : tie.Need-extremes-requires
+extremes-requires c κs = search needs
 
-lowest-requires : tie.Need-lowest-requires
-lowest-requires c κs = search needs
+array-read-most : tie.Need-array-read-most
+array-read-most c = search needs
+
+array-read-least : tie.Need-array-read-least
+array-read-least c = search needs
 
 mean-from-requires : tie.Need-mean-from-requires
 mean-from-requires c κs = search needs
@@ -22,16 +27,13 @@ mean-upto-requires c κs = search needs
 
 returns : tie.Need-returns
 returns c =
-    let b = c .before .before .before in
+    let b = c .before .before in
     let l = now (b .before .args .values) in
-    let most = b .highest .result in
-    let least = c .before .before .lowest .result in
-    let p = b .highest .ensures in
-    let q = c .before .before .lowest .ensures in
-    ap (λ (x : Float). sub binary32 x (c .mean-upto .result)) (c .before .mean-from .ensures ∙ high-is l most least p q)
-    ∙ ap (λ (x : Float). sub binary32 (highLevel l) x) (c .mean-upto .ensures ∙ low-is l most least p q)
+    let e = b .extremes .result in
+    let p = ap (λ (m : List Float). getD m 0 nan) (b .extremes .ensures) in
+    let q = ap (λ (m : List Float). getD m 1 nan) (b .extremes .ensures) in
+    ap (λ (x : Float). sub binary32 x (c .mean-upto .result)) (c .before .mean-from .ensures ∙ high-is l (getD e 0 nan) (getD e 1 nan) p q)
+    ∙ ap (λ (x : Float). sub binary32 (highLevel l) x) (c .mean-upto .ensures ∙ low-is l (getD e 0 nan) (getD e 1 nan) p q)
 
 pub contrast-spec : {M : Type 1} → statement M
-contrast-spec =
-    tie.close
-    (tie.spec highest-requires lowest-requires mean-from-requires mean-upto-requires returns)
+contrast-spec = tie.close (tie.spec extremes-requires array-read-most array-read-least mean-from-requires mean-upto-requires returns)

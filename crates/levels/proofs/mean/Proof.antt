@@ -1,4 +1,4 @@
--- A count of at most 81 is exact as an f32, and the larger of it and 1 is itself unless it is 0.
+-- A sum of at most 2 ^ 24 and a count of at most 81 are exact as an f32, and the larger of the count and 1 is itself unless it is 0.
 use mathlib.Core.Path.{_≡_, refl, sym, ap, _∙_}
 use Prim.Native.Nat.{ℕ, _≤_, _<_, max}
 use native.Mathlib.Omega.{arith}
@@ -16,15 +16,19 @@ none n e = omega arith
 some : (n : ℕ) → (n ≡ 0 → ⊥) → n ≡ max n 1
 some n e = omega arith
 
+int-to-float-total : tie.Need-int-to-float-total
+unfolding inFloat
+int-to-float-total c = le→leb (c .before .args .sum) 16777216 (c .before .pre .0)
+
 returns : tie.Need-returns
-returns c = rw one-is (ap (λ (k : ℕ). div binary32 (c .before .args .sum) (whole k)) (none (c .before .args .n) (c .if1 .taken)))
+returns c = let a = c .before .before .args in rw one-is (ap (λ (k : ℕ). div binary32 (whole (a .sum)) (whole k)) (none (a .n) (c .if1 .taken)))
 
 int-to-float-result : tie.Need-int-to-float-result
 unfolding inFloat
-int-to-float-result c = le→leb (c .before .before .args .n) 16777216 (omega arith)
+int-to-float-result c = le→leb (c .before .before .before .args .n) 16777216 (omega (arith, c .before .before .before .pre .1))
 
 returns-2 : tie.Need-returns-2
-returns-2 c = ap (λ (k : ℕ). div binary32 (c .before .before .args .sum) (whole k)) (some (c .before .before .args .n) (c .before .if1 .left))
+returns-2 c = let a = c .before .before .before .args in ap (λ (k : ℕ). div binary32 (whole (a .sum)) (whole k)) (some (a .n) (c .before .if1 .left))
 
 pub mean-spec : {M : Type 1} → statement M
-mean-spec = tie.close (tie.spec returns int-to-float-result returns-2)
+mean-spec = tie.close (tie.spec int-to-float-total returns int-to-float-result returns-2)

@@ -1,6 +1,6 @@
 -- The steps put together; the gradients of whole numbers are clear, so that the eight largest are theirs.
 use borrow.Author.Needs.{needs}
-use Rattle.tile.proofs.Edges.{grads-clear, flat-is, width-is}
+use Rattle.tile.proofs.Edges.{grads-clear, grads-long, vals-upto, flat-is, width-is}
 use Rattle.tile.proofs.PixelTile.edge_width.Statement.{statement}
 use Rattle.tile.proofs.PixelTile.edge_width.Tie as tie
 
@@ -16,32 +16,43 @@ gradients-requires c κs = search needs
 steepness-requires : tie.Need-steepness-requires
 steepness-requires c κs =
     let b = c .before in
-    let d = b .before .before .before .before in
-    let s = d .before .before .before in
-    (search needs, grads-clear (s .args .t1 .samples) (d .down .result) (b .before .before .across .result) (b .gradients .result) (d .down .ensures) (b .before .before .across .ensures) (b .gradients .ensures) (s .pre))
+    let a = b .before .before .before in
+    let d = a .before .before .before in
+    let s = d .before .before .before .before in (
+      grads-long (s .args .t1 .samples) (d .down .last .1 .0) (a .across .last .1 .0) (b .gradients .last .1 .0) (d .down .ensures) (a .across .ensures) (b .gradients .ensures),
+      grads-clear (s .args .t1 .samples) (d .down .last .1 .0) (a .across .last .1 .0) (b .gradients .last .1 .0) (d .down .ensures) (a .across .ensures) (b .gradients .ensures) (s .pre),
+    )
 
 values-requires : tie.Need-values-requires
 values-requires c κs = search needs
 
 contrast-requires : tie.Need-contrast-requires
-contrast-requires c κs = search needs
+contrast-requires c κs =
+    let b = c .before .before .before .before .before .before in
+    let a = b .before .before .before in
+    let d = a .before .before .before in
+    let s = d .before .before .before .before in
+    vals-upto (s .args .t1 .samples) (d .down .last .1 .0) (a .across .last .1 .0) (b .gradients .last .1 .0) (d .down .ensures) (a .across .ensures) (b .gradients .ensures) (s .pre)
+    (c .before .values .result) (c .before .values .ensures)
 
 returns : tie.Need-returns
 returns c =
     let e = c .before .before .before .before .before in
     let b = e .before .before in
-    let d = b .before .before .before .before in
-    let s = d .before .before .before in
-    width-is (s .args .t1 .samples) (d .down .result) (b .before .before .across .result) (b .gradients .result) (d .down .ensures) (b .before .before .across .ensures) (b .gradients .ensures)
+    let a = b .before .before .before in
+    let d = a .before .before .before in
+    let s = d .before .before .before .before in
+    width-is (s .args .t1 .samples) (d .down .last .1 .0) (a .across .last .1 .0) (b .gradients .last .1 .0) (d .down .ensures) (a .across .ensures) (b .gradients .ensures)
     (e .steepness .result) (e .steepness .ensures) (c .before .before .values .result) (c .contrast .result) (c .before .before .values .ensures) (c .contrast .ensures) (c .before .before .before .before .if1 .taken)
 
 returns-2 : tie.Need-returns-2
 returns-2 c =
     let e = c .before in
     let b = e .before .before in
-    let d = b .before .before .before .before in
-    let s = d .before .before .before in
-    flat-is (s .args .t1 .samples) (d .down .result) (b .before .before .across .result) (b .gradients .result) (d .down .ensures) (b .before .before .across .ensures) (b .gradients .ensures)
+    let a = b .before .before .before in
+    let d = a .before .before .before in
+    let s = d .before .before .before .before in
+    flat-is (s .args .t1 .samples) (d .down .last .1 .0) (a .across .last .1 .0) (b .gradients .last .1 .0) (d .down .ensures) (a .across .ensures) (b .gradients .ensures)
     (e .steepness .result) (e .steepness .ensures) (c .if1 .left)
 
 pub edge-width-spec : {M : Type 1} → statement M

@@ -1,2 +1,0 @@
--- What those who cite the tile need of smoothing.
-pub use Rattle.disk.specs.Smoothing.{smoothed}
