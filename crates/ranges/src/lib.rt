@@ -24,7 +24,7 @@ pub fn up_to_thousand(x: f32) -> bool
 pub fn is_level(x: f32) -> bool
     ensures { λ r. ⌜ r ≡ level x ⌝ }
 {
-    (x != x) | within_thousand(x)
+    !((x < -1000.0) | (1000.0 < x))
 }
 
 pub fn all_within(c: PositionCovariance) -> bool
