@@ -16,9 +16,8 @@ use Rattle.knots.specs.declared.Place.{Place}
 use Rattle.knots.specs.Places.{every, risesAt, knotAt, place, column}
 use Rattle.knots.proofs.Tables.{place-in}
 use Rattle.knots.proofs.Laws.{every-same, place-same, column-same}
-use Rattle.model.specs.declared.SystematicModel.{SystematicModel}
 use Rattle.model.specs.declared.At.{At}
-use Rattle.model.specs.Knots.{rising, ranged, knotsNumber, noKnots, atOf}
+use Rattle.model.specs.Knots.{table, rising, ranged, knotsNumber, noKnots, atOf}
 use Rattle.model.specs.Systematic.{uniformVariance}
 use Rattle.model.proofs.Refusals.{knots}
 
@@ -29,10 +28,6 @@ unfolding lib.Ieee.mul lib.Ieee.div
 twelfth-uniform = refl
 
 -- ---- only the counted knots are looked at
-
--- a table of n knots
-abbrev pub table : ℕ → Float → List Float → List Float → List Float → SystematicModel
-table n f l g r = record { widths = l; gains = g; residuals = r; count = n; floor = f }
 
 module _ (n : ℕ) (f : Float) (l g r l′ g′ r′ : List Float)
     (hl : (k : ℕ) → k < n → at l k ≡ at l′ k) (hg : (k : ℕ) → k < n → at g k ≡ at g′ k) (hr : (k : ℕ) → k < n → at r k ≡ at r′ k) where

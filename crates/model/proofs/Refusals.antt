@@ -14,8 +14,9 @@ use Rattle.model.specs.declared.SystematicModel.{SystematicModel}
 use Rattle.model.specs.declared.At.{At}
 use Rattle.knots.specs.declared.Width.{Width}
 use Rattle.knots.specs.declared.Place.{Place}
-use Rattle.knots.specs.Places.{every, risesAt, place, column}
+use Rattle.knots.specs.Places.{every, risesAt, knotAt, sound, place, column}
 use Rattle.model.specs.Knots.{rising, ranged, knotsNumber, noKnots, atOf}
+use Rattle.ranges.specs.Ranges.{upTo}
 use Rattle.model.specs.Model as Model
 use Rattle.model.specs.Model.{systematicAt, modelNumber, plain, refusal, modelOf}
 
@@ -44,17 +45,26 @@ module _ (s : SystematicModel) where
     counted : rising (s .widths) (s .count) ≡ every (risesAt (s .widths)) (s .count - 1)
     counted = ap (λ (z : Bool). z && every (risesAt (s .widths)) (s .count - 1)) (and (lt-ltb 0 (s .count) (omega arith)) (le-leb (s .count) 16 q))
 
+    abbrev E : Bool
+    E = every (risesAt (s .widths)) (s .count - 1)
+
+    abbrev K : Bool
+    K = (every (knotAt (s .widths)) (s .count) && every (knotAt (s .gains)) (s .count)) && every (knotAt (s .residuals)) (s .count)
+
     pub not-rising : every (risesAt (s .widths)) (s .count - 1) ≡ false → 14 ≡ knotsNumber s
     unfolding by
     not-rising h = number-is false (ranged s) (counted ∙ h) refl
 
-    pub out-of-range : every (risesAt (s .widths)) (s .count - 1) ≡ true → ranged s ≡ false → 12 ≡ knotsNumber s
+    -- by the test of all knots at once, and that of the floor
+    pub out-of-range : every (risesAt (s .widths)) (s .count - 1) ≡ true → sound (s .widths) (s .gains) (s .residuals) (s .count) && upTo 1000 (s .floor) ≡ false → 12 ≡ knotsNumber s
     unfolding by
-    out-of-range h g = number-is true false (counted ∙ h) g
+    out-of-range h g = number-is true false (counted ∙ h) (sym (ap (λ (b : Bool). (b && K) && upTo 1000 (s .floor)) h) ∙ g)
 
-    pub taken : every (risesAt (s .widths)) (s .count - 1) ≡ true → ranged s ≡ true → 0 ≡ knotsNumber s
+    pub taken : sound (s .widths) (s .gains) (s .residuals) (s .count) && upTo 1000 (s .floor) ≡ true → 0 ≡ knotsNumber s
     unfolding by
-    taken h g = number-is true true (counted ∙ h) g
+    taken g =
+        let e = and-left (E && K) (upTo 1000 (s .floor)) g in
+        number-is true true (counted ∙ and-left E K e) (and (and-right E K e) (and-right (E && K) (upTo 1000 (s .floor)) g))
 
   -- a table that nothing refuses has one to sixteen knots
   by-count : (a b : Bool) → by a b ≡ 0 → a ≡ true

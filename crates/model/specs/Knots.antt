@@ -11,6 +11,10 @@ use Rattle.knots.specs.Places.{every, risesAt, knotAt, place, column}
 use Rattle.model.specs.declared.SystematicModel.{SystematicModel}
 use Rattle.model.specs.declared.At.{At}
 
+-- a table of n knots
+abbrev pub table : ℕ → Float → List Float → List Float → List Float → SystematicModel
+table n f l g r = record { widths = l; gains = g; residuals = r; count = n; floor = f }
+
 -- one to sixteen knots, each width above the one before it
 abbrev pub rising : List Float → ℕ → Bool
 rising widths n = (ltb 0 n && leb n 16) && every (risesAt widths) (n - 1)

@@ -13,22 +13,25 @@ use Rattle.model.proofs.Refusals.{at-number, model-knots, model-12, mod
 use Rattle.model.proofs.SystematicModel.model.Statement.{statement}
 use Rattle.model.proofs.SystematicModel.model.Tie as tie
 
-number : (c : tie.After-at) → c .at .result .number ≡ knotsNumber (c .before .args .self)
-number c = ap (λ (a : At). a .number) (c .at .ensures) ∙ at-number _ _
+abbrev start : tie.After-at-knots → tie.Start
+start c = c .before .before .before .before .before .before .before
 
-no-number : (c : tie.Else1) → 0 ≡ knotsNumber (c .before .before .before .args .self)
+number : (c : tie.After-at-knots) → c .at-knots .result .number ≡ knotsNumber (start c .args .self)
+number c = ap (λ (a : At). a .number) (c .at-knots .ensures) ∙ at-number _ _
+
+no-number : (c : tie.Else1) → 0 ≡ knotsNumber (start (c .before .before) .args .self)
 no-number c = sym (c .if1 .left) ∙ number (c .before .before)
 
 -- what the three tests of ranges say together
-ranges : (c : tie.After-up-to-thousand) → let a = c .before .before .before .before .before .before .args in ranged (a .noise) (a .offset) (a .grid) ≡ (c .before .before .all-within .result && c .before .both-within .result) && c .up-to-thousand .result
+ranges : (c : tie.After-up-to-thousand) → let a = start (c .before .before .before .before .before) .args in ranged (a .noise) (a .offset) (a .grid) ≡ (c .before .before .all-within .result && c .before .both-within .result) && c .up-to-thousand .result
 ranges c = and (and (sym (c .before .before .all-within .ensures)) (sym (c .before .both-within .ensures))) (sym (c .up-to-thousand .ensures))
 
 -- the systematic part, at the answer of `at`
-part : (c : tie.After-systematic-of) → let a = c .before .before .before .before .before .before .before .before .args in c .systematic-of .result ≡ systematicAt (a .self) (a .offset) (a .width) (a .grid)
-part c = let d = c .before .before .before .before .before .before .before in let a = d .before .args in c .systematic-of .ensures ∙ ap (λ (r : At). systematic (r .gain) (r .residual) (a .self .floor) (a .offset) (a .grid)) (d .at .ensures)
+part : (c : tie.After-systematic-of) → let a = start (c .before .before .before .before .before .before .before) .args in c .systematic-of .result ≡ systematicAt (a .self) (a .offset) (a .width) (a .grid)
+part c = let d = c .before .before .before .before .before .before .before in let a = start d .args in c .systematic-of .ensures ∙ ap (λ (r : At). systematic (r .gain) (r .residual) (a .self .floor) (a .offset) (a .grid)) (d .at-knots .ensures)
 
-at-requires : tie.Need-at-requires
-at-requires c κs = search needs
+at-knots-requires : tie.Need-at-knots-requires
+at-knots-requires c κs = search needs
 
 refused-requires : tie.Need-refused-requires
 refused-requires c κs = search needs
@@ -80,7 +83,7 @@ pub model-spec : {M : Type 1} → statement M
 model-spec =
     tie.close
     (tie.spec
-    at-requires
+    at-knots-requires
     refused-requires
     returns
     all-within-requires
