@@ -67,12 +67,12 @@ impl CovarianceModel {
         let noise = self.noise;
         let systematic = self.systematic;
         ranges::all_within(noise)
-            & systematic.is_finite()
+            & ranges::all_finite(systematic)
             & ranges::both_within(growth)
             & ranges::is_level(sigma)
     }
 
-    // The noise term at `sigma`, which nothing is asked of.
+    // The noise term of a model and a `sigma` in any range.
     fn noise_term(self, sigma: f32) -> PositionCovariance
         ensures { λ r. ⌜ r ≡ noise self (variance sigma) ⌝ }
     {
@@ -101,7 +101,7 @@ impl CovarianceModel {
         if !self.ranged(sigma) {
             return Judged::Refused(12);
         }
-        let systematic = self.systematic;
-        Judged::Covariance(self.noise_term(sigma).add(systematic))
+        let part = self.systematic;
+        Judged::Covariance(self.noise_term(sigma).add(part))
     }
 }

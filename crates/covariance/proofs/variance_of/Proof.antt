@@ -2,17 +2,18 @@
 use mathlib.Core.Path.{_∙_}
 use lib.Ieee.{ofBits}
 use Rattle.laws.proofs.Choice.{chosen, passed}
+use Rattle.ranges.specs.Arith.{_⊗_}
 use Rattle.covariance.proofs.Formulas.{larger-is}
 use Rattle.covariance.proofs.variance_of.Statement.{statement}
 use Rattle.covariance.proofs.variance_of.Tie as tie
 
 returns : tie.Need-returns
 unfolding ofBits
-returns c = chosen _ _ _ (c .if1 .taken) ∙ larger-is _
+returns c = let s = c .before .args .sigma in chosen _ _ _ (c .if1 .taken) ∙ larger-is (s ⊗ s)
 
 returns-2 : tie.Need-returns-2
 unfolding ofBits
-returns-2 c = passed _ _ _ (c .if1 .left) ∙ larger-is _
+returns-2 c = let s = c .before .args .sigma in passed _ _ _ (c .if1 .left) ∙ larger-is (s ⊗ s)
 
 pub variance-of-spec : {M : Type 1} → statement M
 variance-of-spec = tie.close (tie.spec returns returns-2)
