@@ -13,9 +13,8 @@ use Rattle.refine.proofs.Refusing.{and, and-left, and-right, stands, follows}
 use Rattle.model.specs.declared.SystematicModel.{SystematicModel}
 use Rattle.model.specs.declared.At.{At}
 use Rattle.knots.specs.declared.Width.{Width}
-use Rattle.knots.specs.declared.Place.{Place}
-use Rattle.knots.specs.Places.{every, risesAt, knotAt, sound, place, column}
-use Rattle.model.specs.Knots.{rising, ranged, knotsNumber, noKnots, atOf}
+use Rattle.knots.specs.Places.{every, risesAt, knotAt, sound}
+use Rattle.model.specs.Knots.{rising, ranged, knotsNumber, noKnots, found, atOf}
 use Rattle.ranges.specs.Ranges.{upTo}
 use Rattle.model.specs.Model as Model
 use Rattle.model.specs.Model.{systematicAt, modelNumber, plain, refusal, modelOf}
@@ -86,21 +85,9 @@ module _ (s : SystematicModel) where
     unfolding atOf
     at-refused n h e = stands noKnots _ n h e
 
-    pub at-found : 0 ≡ knotsNumber s → {p : Place} {a b : Float} → p ≡ place (s .widths) (s .count) w → a ≡ column (s .gains) p → b ≡ column (s .residuals) p
-        → record { number = 0; gain = a; residual = b } ≡ atOf s w
+    pub at-found : 0 ≡ knotsNumber s → found (s .widths) (s .gains) (s .residuals) (s .count) w ≡ atOf s w
     unfolding atOf
-    at-found z {p} {a} {b} e f g = same (f ∙ ap (column (s .gains)) e) (g ∙ ap (column (s .residuals)) e) ∙ follows noKnots _ z
-      where
-        same : {x y x′ y′ : Float} → x ≡ x′ → y ≡ y′ → _≡_ {A = At} (record { number = 0; gain = x; residual = y }) (record { number = 0; gain = x′; residual = y′ })
-        same f g = λ i. record { number = 0; gain = f i; residual = g i }
-
-    pub at-number : atOf s w .number ≡ knotsNumber s
-    unfolding atOf
-    at-number = pick (knotsNumber s) (eqb (knotsNumber s) 0) _ (eqb-true (knotsNumber s) 0) refl
-      where
-        pick : (n : ℕ) (b : Bool) (a : At) → (b ≡ true → n ≡ 0) → a .number ≡ 0 → (cond b a (noKnots n)) .number ≡ n
-        pick n true a h e = e ∙ sym (h refl)
-        pick n false a h e = refl
+    at-found z = follows noKnots _ z
 
 -- ---- the model
 

@@ -1,6 +1,7 @@
 // The systematic model of uncertainty.rs, and the covariance model that it makes, by value.
 ghost use mathlib.Core.Path.{_≡_};
-ghost use Rattle.model.specs.Knots.{table, knotsNumber, atOf};
+ghost use Prim.Native.Nat.{_<_, _≤_};
+ghost use Rattle.model.specs.Knots.{table, knotsNumber, found, atOf};
 ghost use Rattle.model.specs.Systematic.{uniformVariance, about, systematic};
 ghost use Rattle.model.specs.Model.{refusal, modelOf};
 use covariance::CovarianceModel;
@@ -87,25 +88,17 @@ fn knots_number(
     }
 }
 
-// Gain and residual at an edge width. The columns are lent, so that none is copied.
+// Gain and residual at an edge width, of knots that nothing refuses.
 fn at_knots(
     widths: &[f32; 16],
     gains: &[f32; 16],
     residuals: &[f32; 16],
     count: usize,
-    floor: f32,
     width: Width,
 ) -> At
-    ensures { λ r. ⌜ r ≡ atOf (table count floor (now (widths .entry)) (now (gains .entry)) (now (residuals .entry))) width ⌝ }
+    requires { ⌜ (0 < count) × (count ≤ 16) ⌝ }
+    ensures { λ r. ⌜ r ≡ found (now (widths .entry)) (now (gains .entry)) (now (residuals .entry)) count width ⌝ }
 {
-    let number = knots_number(widths, gains, residuals, count, floor);
-    if number != 0 {
-        return At {
-            number,
-            gain: 0.0,
-            residual: 0.0,
-        };
-    }
     let p = knots::place_of(widths, count, width);
     At {
         number: 0,
@@ -122,7 +115,15 @@ impl SystematicModel {
         let widths = self.widths;
         let gains = self.gains;
         let residuals = self.residuals;
-        at_knots(&widths, &gains, &residuals, self.count, self.floor, width)
+        let number = knots_number(&widths, &gains, &residuals, self.count, self.floor);
+        if number != 0 {
+            return At {
+                number,
+                gain: 0.0,
+                residual: 0.0,
+            };
+        }
+        at_knots(&widths, &gains, &residuals, self.count, width)
     }
 
     // The covariance model of an estimate with noise term `noise`, at `offset` px from the centre of its fit window on a
@@ -139,10 +140,11 @@ impl SystematicModel {
         let widths = self.widths;
         let gains = self.gains;
         let residuals = self.residuals;
-        let at = at_knots(&widths, &gains, &residuals, self.count, self.floor, width);
-        if at.number != 0 {
-            return refused(at.number);
+        let number = knots_number(&widths, &gains, &residuals, self.count, self.floor);
+        if number != 0 {
+            return refused(number);
         }
+        let at = at_knots(&widths, &gains, &residuals, self.count, width);
         if !(ranges::all_within(noise)
             & ranges::both_within(offset)
             & ranges::up_to_thousand(grid)) {
