@@ -5,7 +5,6 @@ use Prim.Native.Nat.{ℕ, _*_, _^_, _<_}
 use native.Mathlib.Nat.{mul-comm}
 use native.Mathlib.Omega.{arith}
 use lib.Dec.{T, eqb}
-use lib.IntN.{ℤ}
 use lib.Ieee.{Float, nan, inf, fin, binary32, up, down, eq, fits, units, size}
 use lib.Ieee.Fits.{down-pos}
 use lib.Ieee.Exact.{HasValue}

@@ -16,7 +16,6 @@ use Rattle.knots.specs.declared.Place.{Place}
 use Rattle.knots.specs.Places.{every, risesAt, knotAt, place, column}
 use Rattle.knots.proofs.Tables.{place-in}
 use Rattle.knots.proofs.Laws.{every-same, place-same, column-same}
-use Rattle.model.specs.declared.At.{At}
 use Rattle.model.specs.Knots.{table, rising, ranged, knotsNumber, noKnots, found, atOf}
 use Rattle.model.specs.Systematic.{uniformVariance}
 use Rattle.model.proofs.Refusals.{knots}

@@ -4,14 +4,13 @@ use mathlib.Core.Bool.{Bool, true, false, cond, _&&_}
 use mathlib.Core.List.{List}
 use Prim.Native.Nat.{ℕ, _-_, _≤_, _<_}
 use native.Mathlib.Omega.{arith}
-use lib.Dec.{eqb, ltb, leb}
+use lib.Dec.{ltb, leb}
 use lib.Ieee.{Float}
-use borrow.Author.Tests.{lt-ltb, le-leb, lt-leb, ltb-true, leb-true, eqb-true}
+use borrow.Author.Tests.{lt-ltb, le-leb, lt-leb, ltb-true, leb-true}
 use Rattle.refine.specs.Covariance.{allFinite}
 use Rattle.refine.specs.declared.PositionCovariance.{PositionCovariance}
 use Rattle.refine.proofs.Refusing.{and, and-left, and-right, stands, follows}
 use Rattle.model.specs.declared.SystematicModel.{SystematicModel}
-use Rattle.model.specs.declared.At.{At}
 use Rattle.knots.specs.declared.Width.{Width}
 use Rattle.knots.specs.Places.{every, risesAt, knotAt, sound}
 use Rattle.model.specs.Knots.{rising, ranged, knotsNumber, noKnots, found, atOf}

@@ -1,5 +1,5 @@
 -- The finite floats of f32 are those of a magnitude of at most its largest number, (2 ^ 24 - 1) * 2 ^ 104. Assumes nothing.
-use mathlib.Core.Path.{_≡_, refl, sym, ap, _∙_}
+use mathlib.Core.Path.{_≡_, _∙_}
 use mathlib.Core.Logic.{inl, inr}
 use mathlib.Core.Bool.{Bool, true, false, _&&_}
 use Prim.Native.Nat.{ℕ, _*_, _^_, _≤_, _<_}
@@ -8,7 +8,6 @@ use lib.Dec.{T, lit≤}
 use lib.IntN.{ℤ, pos}
 use lib.Pow.{pow-pos}
 use lib.Ieee.{Float, nan, inf, fin, binary32, up, down, le, fits}
-use lib.Ieee.Exact.{HasValue}
 use borrow.Author.Tests.{le-leb}
 use Rattle.ieee.specs.Order.{finite}
 use Rattle.ieee.proofs.Naturals.{le-or-lt}

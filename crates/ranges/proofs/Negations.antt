@@ -3,7 +3,7 @@ use mathlib.Core.Path.{_≡_, refl, sym, ap, _∙_}
 use mathlib.Core.Logic.{inl, inr}
 use mathlib.Core.Bool.{Bool, true, false, not, _&&_, _||_, true≢false}
 use Prim.Native.Nat.{ℕ, _+_, _*_, _^_}
-use native.Mathlib.Nat.{mul-assoc, mul-comm, mul-right-comm, mul-pos}
+use native.Mathlib.Nat.{mul-assoc, mul-comm, mul-pos}
 use native.Mathlib.Omega.{arith}
 use lib.IntN.{pos}
 use lib.Ieee.{Float, nan, inf, fin, up, down, below, le, lt, eq, isNan}
