@@ -3,6 +3,7 @@ use mathlib.Core.Path.{_≡_, refl, sym, ap, _∙_}
 use mathlib.Core.Bool.{Bool, true, false, cond, not}
 use lib.Ieee.{Float, nan, inf, fin, le, lt, eq, isNan}
 use Rattle.ieee.specs.Order.{larger}
+use Rattle.refine.specs.Covariance.{sum}
 use Rattle.refine.specs.declared.PositionCovariance.{PositionCovariance}
 use Rattle.ranges.specs.Arith.{at, twelfth}
 use Rattle.ranges.proofs.Negations.{not-le}
@@ -13,6 +14,9 @@ pub noise-is : (m : CovarianceModel) (sigma : Float) {v f0 f1 : Float} {r : Posi
     → r ≡ scaled (m .noise) v f0 f1 → r ≡ noise m (variance sigma)
 noise-is m sigma {v} {f0} {f1} e a b h =
     h ∙ ap (λ (f : Float). scaled (m .noise) v f f1) a ∙ ap (λ (f : Float). scaled (m .noise) v (grown v (at (m .growth) 0)) f) b ∙ ap (noise m) e
+
+pub total-is : (m : CovarianceModel) (sigma : Float) {n r : PositionCovariance} → n ≡ noise m (variance sigma) → r ≡ sum n (m .systematic) → r ≡ sum (noise m (variance sigma)) (m .systematic)
+total-is m sigma e h = h ∙ ap (λ (n : PositionCovariance). sum n (m .systematic)) e
 
 -- ---- the larger of a float and 1 / 12, by one test
 

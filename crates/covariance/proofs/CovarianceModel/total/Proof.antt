@@ -2,9 +2,8 @@
 use mathlib.Core.Path.{sym, ap, _∙_}
 use borrow.Author.Tests.{not-true, not-false}
 use borrow.Author.Needs.{needs}
-use Rattle.refine.specs.Covariance.{sum}
-use Rattle.refine.specs.declared.PositionCovariance.{PositionCovariance}
 use Rattle.refine.specs.declared.Judged.the-variants.{Covariance}
+use Rattle.covariance.proofs.Formulas.{total-is}
 use Rattle.covariance.proofs.Laws.{judged, accepted, total-adds, total-refuses}
 use Rattle.covariance.proofs.CovarianceModel.total.Statement.{statement}
 use Rattle.covariance.proofs.CovarianceModel.total.Tie as tie
@@ -23,8 +22,8 @@ add-requires c κs = search needs
 
 returns-2 : tie.Need-returns-2
 returns-2 c =
-    let n = c .before in let e = n .before .before in let s = e .before .before .args .self in
-    ap Covariance (c .add .ensures ∙ ap (λ (d : PositionCovariance). sum d (s .systematic)) (n .noise-term .ensures))
+    let n = c .before in let e = n .before .before in let a = e .before .before .args in
+    ap Covariance (total-is (a .self) (a .sigma) (n .noise-term .ensures) (c .add .ensures))
     ∙ sym (total-adds _ _ (accepted _ _ (sym (e .before .ranged .ensures) ∙ not-false _ (e .if1 .left))))
 
 pub total-spec : {M : Type 1} → statement M
