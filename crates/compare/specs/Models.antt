@@ -5,16 +5,12 @@ use mathlib.Core.Path.{_≡_}
 use mathlib.Core.List.{List, [], _∷_, _++_}
 use lib.ListN.{getD}
 use lib.Ieee.{Float, nan}
-use Rattle.model.specs.declared.SystematicModel.{SystematicModel}
 use Rattle.covariance.specs.declared.CovarianceModel.{CovarianceModel}
 use Rattle.model.specs.declared.At.{At}
 use Rattle.knots.specs.declared.Width.{Width}
 use Rattle.knots.specs.declared.Width.the-variants.{Known, Unknown}
 use Rattle.model.specs.declared.Modelled.{Modelled}
 use Rattle.compare.specs.Lent.{three, entries}
-
-abbrev pub table : List Float → List Float → List Float → ℕ → Float → SystematicModel
-table widths gains residuals count floor = record { widths = widths; gains = gains; residuals = residuals; count = count; floor = floor }
 
 abbrev pub wide : Bool → Float → Width
 wide known w = cond known (Known w) Unknown

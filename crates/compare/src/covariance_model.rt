@@ -1,11 +1,11 @@
 // The covariance model. Knots, covariances, offsets and growths are lent by their floats; the figures go to `out`.
 ghost use mathlib.Core.Path.{_≡_};
-ghost use Rattle.model.specs.Knots.{atOf};
+ghost use Rattle.model.specs.Knots.{table, atOf};
 ghost use Rattle.covariance.specs.Noise.{noiseAt, total};
 ghost use Rattle.model.specs.Model.{modelOf};
 ghost use Rattle.refine.specs.Covariance.{number, figures};
 ghost use Rattle.compare.specs.Lent.{three, entries};
-ghost use Rattle.compare.specs.Models.{table, wide, whole, gained, Told};
+ghost use Rattle.compare.specs.Models.{wide, whole, gained, Told};
 use crate::covariances::covariance_of;
 use crate::covariances::told;
 use covariance::CovarianceModel;
@@ -34,7 +34,7 @@ pub extern "C" fn vuzgari_compare_at(
     w: f32,
     out: &mut [f32; 2],
 ) -> u32
-    ensures { λ r. ⌜ (r ≡ atOf (table (now (widths .entry)) (now (gains .entry)) (now (residuals .entry)) count floor) (wide known w) .number) × (now (out .exit) ≡ gained (atOf (table (now (widths .entry)) (now (gains .entry)) (now (residuals .entry)) count floor) (wide known w))) ⌝ }
+    ensures { λ r. ⌜ (r ≡ atOf (table count floor (now (widths .entry)) (now (gains .entry)) (now (residuals .entry))) (wide known w) .number) × (now (out .exit) ≡ gained (atOf (table count floor (now (widths .entry)) (now (gains .entry)) (now (residuals .entry))) (wide known w))) ⌝ }
 {
     let a = *widths;
     let b = *gains;
@@ -65,7 +65,7 @@ pub extern "C" fn vuzgari_compare_model(
     grid: f32,
     out: &mut [f32; 8],
 ) -> u32
-    ensures { λ r. ⌜ Told (modelOf (table (now (widths .entry)) (now (gains .entry)) (now (residuals .entry)) count floor) (three (now (noise .entry))) (now (offset .entry)) (wide known w) grid) r (now (out .exit)) ⌝ }
+    ensures { λ r. ⌜ Told (modelOf (table count floor (now (widths .entry)) (now (gains .entry)) (now (residuals .entry))) (three (now (noise .entry))) (now (offset .entry)) (wide known w) grid) r (now (out .exit)) ⌝ }
 {
     let a = *widths;
     let b = *gains;

@@ -1,6 +1,6 @@
 -- What the definitions mean: the constant, what is judged, and how the total is made. Assumes nothing.
 use mathlib.Core.Path.{_≡_, refl, ap, _∙_}
-use mathlib.Core.Bool.{Bool, false, cond, _&&_}
+use mathlib.Core.Bool.{Bool, true, false, cond, _&&_}
 use Prim.Native.Nat.{ℕ}
 use lib.Ieee.{Float, nan, binary32, round}
 use Rattle.ieee.specs.Order.{larger}
@@ -29,9 +29,13 @@ nan-variance = refl
 
 -- ---- the noise part, the systematic part, growth and sigma are each judged, used or not
 
-judged : (m : CovarianceModel) (sigma : Float) → Noise.ranged m sigma ≡ false → noiseAt m sigma ≡ Refused 12
+pub judged : (m : CovarianceModel) (sigma : Float) → Noise.ranged m sigma ≡ false → noiseAt m sigma ≡ Refused 12
 unfolding noiseAt
 judged m sigma h = ap (λ (b : Bool). cond b (Covariance (noise m (variance sigma))) (Refused 12)) h
+
+pub accepted : (m : CovarianceModel) (sigma : Float) → Noise.ranged m sigma ≡ true → noiseAt m sigma ≡ Covariance (noise m (variance sigma))
+unfolding noiseAt
+accepted m sigma h = ap (λ (b : Bool). cond b (Covariance (noise m (variance sigma))) (Refused 12)) h
 
 module _ (m : CovarianceModel) (sigma : Float) where
   pub judges-noise : allWithin 1000000 (m .noise) ≡ false → noiseAt m sigma ≡ Refused 12

@@ -1,7 +1,9 @@
 // The covariance model of uncertainty.rs at an image noise, by value.
 ghost use mathlib.Core.Path.{_≡_};
+ghost use lib.Ieee.{binary32};
+ghost use Rattle.ieee.specs.Sqrt.{sqrt};
 ghost use Rattle.covariance.specs.Noise as Noise;
-ghost use Rattle.covariance.specs.Noise.{variance, grown, scaled, noiseAt};
+ghost use Rattle.covariance.specs.Noise.{variance, grown, scaled, noise, noiseAt};
 use refine::Judged;
 use refine::PositionCovariance;
 
@@ -21,13 +23,29 @@ pub struct CovarianceModel {
 fn variance_of(sigma: f32) -> f32
     ensures { λ r. ⌜ r ≡ variance sigma ⌝ }
 {
-    float::max32(sigma * sigma, ROUNDING_VAR)
+    // false of a NaN too
+    let square = sigma * sigma;
+    if square >= ROUNDING_VAR {
+        square
+    } else {
+        ROUNDING_VAR
+    }
+}
+
+// The square root. 1, the factor of a noise that doesn't grow, is its own, and is told without the call.
+fn root_of(x: f32) -> f32
+    ensures { λ r. ⌜ r ≡ sqrt binary32 x ⌝ }
+{
+    if x == 1.0 {
+        return x;
+    }
+    roots::sqrt32(x)
 }
 
 fn grown_by(var: f32, k: f32) -> f32
     ensures { λ r. ⌜ r ≡ grown var k ⌝ }
 {
-    roots::sqrt32(1.0 + var * k * k)
+    root_of(1.0 + var * k * k)
 }
 
 fn scaled_by(c: PositionCovariance, var: f32, f0: f32, f1: f32) -> PositionCovariance
@@ -49,9 +67,21 @@ impl CovarianceModel {
         let noise = self.noise;
         let systematic = self.systematic;
         ranges::all_within(noise)
-            & systematic.is_finite()
+            & ranges::all_finite(systematic)
             & ranges::both_within(growth)
             & ranges::is_level(sigma)
+    }
+
+    // The noise term of a model and a `sigma` in any range.
+    fn noise_term(self, sigma: f32) -> PositionCovariance
+        ensures { λ r. ⌜ r ≡ noise self (variance sigma) ⌝ }
+    {
+        let noise = self.noise;
+        let growth = self.growth;
+        let var = variance_of(sigma);
+        let f0 = grown_by(var, growth[0]);
+        let f1 = grown_by(var, growth[1]);
+        scaled_by(noise, var, f0, f1)
     }
 
     // The noise term alone at `sigma`.
@@ -61,22 +91,17 @@ impl CovarianceModel {
         if !self.ranged(sigma) {
             return Judged::Refused(12);
         }
-        let noise = self.noise;
-        let growth = self.growth;
-        let var = variance_of(sigma);
-        let f0 = grown_by(var, growth[0]);
-        let f1 = grown_by(var, growth[1]);
-        Judged::Covariance(scaled_by(noise, var, f0, f1))
+        Judged::Covariance(self.noise_term(sigma))
     }
 
     // The model with an image noise of `sigma` grey levels: the noise term and the systematic one.
     pub fn total(self, sigma: f32) -> Judged
         ensures { λ r. ⌜ r ≡ Noise.total self sigma ⌝ }
     {
-        let systematic = self.systematic;
-        match self.noise_at(sigma) {
-            Judged::Covariance(c) => Judged::Covariance(c.add(systematic)),
-            Judged::Refused(n) => Judged::Refused(n),
+        if !self.ranged(sigma) {
+            return Judged::Refused(12);
         }
+        let part = self.systematic;
+        Judged::Covariance(self.noise_term(sigma).add(part))
     }
 }

@@ -24,6 +24,11 @@ risesAt l k = lt (at l k) (at l (k + 1))
 abbrev pub knotAt : List Float → ℕ → Bool
 knotAt l k = within 1000 (at l k)
 
+-- the first n widths rise strictly, and the first n numbers of each column are in the range of knots
+abbrev pub sound : List Float → List Float → List Float → ℕ → Bool
+sound widths gains residuals n =
+    every (risesAt widths) (n - 1) && ((every (knotAt widths) n && every (knotAt gains) n) && every (knotAt residuals) n)
+
 -- ---- where a width lies
 
 -- from knot k on, with n knots after it: between the first two whose upper one is at or above w, and at the last if none is

@@ -1,7 +1,7 @@
 // Columns of up to sixteen knots, and where an edge width lies among them.
 ghost use mathlib.Core.Path.{_≡_};
 ghost use Prim.Native.Nat.{_<_, _≤_};
-ghost use Rattle.knots.specs.Places.{every, risesAt, knotAt, between, place, Inside, blend, column};
+ghost use Rattle.knots.specs.Places.{every, risesAt, sound, between, place, Inside, blend, column};
 
 // The width of an edge, px.
 pub enum Width {
@@ -16,9 +16,9 @@ pub enum Place {
 }
 
 // Whether each of the first n widths is below the next.
-pub fn rises(widths: [f32; 16], n: usize) -> bool
+pub fn rises(widths: &[f32; 16], n: usize) -> bool
     requires { ⌜ n < 16 ⌝ }
-    ensures { λ r. ⌜ r ≡ every (risesAt widths) n ⌝ }
+    ensures { λ r. ⌜ r ≡ every (risesAt (now (widths .entry))) n ⌝ }
 {
     let mut all = true;
     let mut k = 0;
@@ -29,24 +29,37 @@ pub fn rises(widths: [f32; 16], n: usize) -> bool
     all
 }
 
-// Whether each of a column's first n numbers is in the range of knots.
-pub fn in_range(values: [f32; 16], n: usize) -> bool
+// Whether each of the first n widths is above the one before it, and each of the first n knots' numbers is in the range of knots:
+// one loop without a jump. Before the first width stands a NaN, which no float is at or below; a NaN among the widths is out of range.
+pub fn rises_in_range(
+    widths: &[f32; 16],
+    gains: &[f32; 16],
+    residuals: &[f32; 16],
+    n: usize,
+) -> bool
     requires { ⌜ n ≤ 16 ⌝ }
-    ensures { λ r. ⌜ r ≡ every (knotAt values) n ⌝ }
+    ensures { λ r. ⌜ r ≡ sound (now (widths .entry)) (now (gains .entry)) (now (residuals .entry)) n ⌝ }
 {
     let mut all = true;
+    let mut last = 0.0 / 0.0;
     let mut k = 0;
     while k < n {
-        all = all & ranges::within_thousand(values[k]);
+        let width = widths[k];
+        all = all
+            & !(width <= last)
+            & ranges::within_thousand(width)
+            & ranges::within_thousand(gains[k])
+            & ranges::within_thousand(residuals[k]);
+        last = width;
         k += 1;
     }
     all
 }
 
 // The place of w, which is above the first knot, among the first knot and the n after it.
-fn between_knots(widths: [f32; 16], w: f32, n: usize) -> Place
+fn between_knots(widths: &[f32; 16], w: f32, n: usize) -> Place
     requires { ⌜ n < 16 ⌝ }
-    ensures { λ r. ⌜ r ≡ between widths w 0 n ⌝ }
+    ensures { λ r. ⌜ r ≡ between (now (widths .entry)) w 0 n ⌝ }
 {
     let mut k = 0;
     while k < n {
@@ -60,9 +73,9 @@ fn between_knots(widths: [f32; 16], w: f32, n: usize) -> Place
     Place::Knot(k)
 }
 
-pub fn place_of(widths: [f32; 16], count: usize, width: Width) -> Place
+pub fn place_of(widths: &[f32; 16], count: usize, width: Width) -> Place
     requires { ⌜ (0 < count) × (count ≤ 16) ⌝ }
-    ensures { λ r. ⌜ r ≡ place widths count width ⌝ }
+    ensures { λ r. ⌜ r ≡ place (now (widths .entry)) count width ⌝ }
 {
     match width {
         Width::Unknown => Place::Knot(0),
@@ -77,9 +90,9 @@ pub fn place_of(widths: [f32; 16], count: usize, width: Width) -> Place
 }
 
 // A column's number at a place.
-pub fn interpolated(values: [f32; 16], p: Place) -> f32
+pub fn interpolated(values: &[f32; 16], p: Place) -> f32
     requires { ⌜ Inside 16 p ⌝ }
-    ensures { λ r. ⌜ r ≡ column values p ⌝ }
+    ensures { λ r. ⌜ r ≡ column (now (values .entry)) p ⌝ }
 {
     match p {
         Place::Knot(k) => values[k],

@@ -11,10 +11,9 @@ use Rattle.ranges.specs.Ranges.{within, upTo}
 use Rattle.ranges.proofs.Examples.{float}
 use Rattle.knots.specs.declared.Width.the-variants.{Known, Unknown}
 use Rattle.knots.specs.Places.{place, column}
-use Rattle.model.specs.Knots.{knotsNumber, atOf}
+use Rattle.model.specs.Knots.{table, knotsNumber, atOf}
 use Rattle.model.specs.Systematic.{systematic, shrunk, about}
 use Rattle.model.specs.Model.{modelNumber}
-use Rattle.model.proofs.Laws.{table}
 
 -- knots (1, 0.5, 0) and (2, 0.25, 1), whatever stands past them: width 1.5 gives 0.375 and 0.5
 pub knots-row : (l g r : List Float)

@@ -2,10 +2,16 @@
 use mathlib.Core.Path.{_≡_, ap, _∙_}
 use mathlib.Core.Bool.{true, false}
 use mathlib.Core.List.{List}
+use Prim.Native.Nat.{ℕ}
 use lib.Ieee.{Float, le}
 use Rattle.laws.proofs.Choice.{chosen, passed}
 use Rattle.refine.specs.declared.PositionCovariance.{PositionCovariance}
 use Rattle.ranges.specs.Arith.{_⊕_, _⊗_, _⊘_, at, plusZero}
+use Rattle.knots.specs.declared.Width.{Width}
+use Rattle.knots.specs.declared.Place.{Place}
+use Rattle.knots.specs.Places.{place, column}
+use Rattle.model.specs.declared.At.{At}
+use Rattle.model.specs.Knots.{found}
 use Rattle.model.specs.Systematic.{uniformVariance, about, error, shrunk, systematic}
 
 module _ (g rho floor : Float) (u : List Float) (grid : Float) where
@@ -23,3 +29,12 @@ module _ (g rho floor : Float) (u : List Float) (grid : Float) where
       → r ≡ systematic g rho floor u grid
   unfolding shrunk
   something-said e t h = h ∙ passed _ _ _ t ∙ from-prior e
+
+-- ---- the knots at a width
+
+pub found-is : (l g r : List Float) (n : ℕ) (w : Width) {p : Place} {a b : Float} → p ≡ place l n w → a ≡ column g p → b ≡ column r p → record { number = 0; gain = a; residual = b } ≡ found l g r n w
+unfolding found
+found-is l g r n w e f h = same (f ∙ ap (column g) e) (h ∙ ap (column r) e)
+  where
+    same : {x y x′ y′ : Float} → x ≡ x′ → y ≡ y′ → _≡_ {A = At} (record { number = 0; gain = x; residual = y }) (record { number = 0; gain = x′; residual = y′ })
+    same f g = λ i. record { number = 0; gain = f i; residual = g i }

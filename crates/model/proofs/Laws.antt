@@ -16,9 +16,7 @@ use Rattle.knots.specs.declared.Place.{Place}
 use Rattle.knots.specs.Places.{every, risesAt, knotAt, place, column}
 use Rattle.knots.proofs.Tables.{place-in}
 use Rattle.knots.proofs.Laws.{every-same, place-same, column-same}
-use Rattle.model.specs.declared.SystematicModel.{SystematicModel}
-use Rattle.model.specs.declared.At.{At}
-use Rattle.model.specs.Knots.{rising, ranged, knotsNumber, noKnots, atOf}
+use Rattle.model.specs.Knots.{table, rising, ranged, knotsNumber, noKnots, found, atOf}
 use Rattle.model.specs.Systematic.{uniformVariance}
 use Rattle.model.proofs.Refusals.{knots}
 
@@ -29,10 +27,6 @@ unfolding lib.Ieee.mul lib.Ieee.div
 twelfth-uniform = refl
 
 -- ---- only the counted knots are looked at
-
--- a table of n knots
-abbrev pub table : ℕ → Float → List Float → List Float → List Float → SystematicModel
-table n f l g r = record { widths = l; gains = g; residuals = r; count = n; floor = f }
 
 module _ (n : ℕ) (f : Float) (l g r l′ g′ r′ : List Float)
     (hl : (k : ℕ) → k < n → at l k ≡ at l′ k) (hg : (k : ℕ) → k < n → at g k ≡ at g′ k) (hr : (k : ℕ) → k < n → at r k ≡ at r′ k) where
@@ -53,20 +47,18 @@ module _ (n : ℕ) (f : Float) (l g r l′ g′ r′ : List Float)
   cond-same true x y z h = h refl
   cond-same false x y z h = refl
 
+  same-found : (w : Width) → 0 < n → found l g r n w ≡ found l′ g′ r′ n w
+  unfolding found
+  same-found w p =
+      let i = place-in l n n w p (le-refl n) in
+      (λ k. record { number = 0; gain = column-same g g′ n (place l n w) i hg k; residual = column-same r r′ n (place l n w) i hr k })
+      ∙ ap (λ (q : Place). record { number = 0; gain = column g′ q; residual = column r′ q }) (place-same l l′ n w p hl)
+
   pub same-at : (w : Width) → atOf (table n f l g r) w ≡ atOf (table n f l′ g′ r′) w
   unfolding atOf
   same-at w =
-      cond-same (eqb N 0) (found l g r) (found l′ g′ r′) (noKnots N) (λ e. same-found (knots (table n f l g r) (sym (eqb-true N 0 e)) .0))
-      ∙ ap (λ (m : ℕ). cond (eqb m 0) (found l′ g′ r′) (noKnots m)) same-number
+      cond-same (eqb N 0) (found l g r n w) (found l′ g′ r′ n w) (noKnots N) (λ e. same-found w (knots (table n f l g r) (sym (eqb-true N 0 e)) .0))
+      ∙ ap (λ (m : ℕ). cond (eqb m 0) (found l′ g′ r′ n w) (noKnots m)) same-number
     where
       N : ℕ
       N = knotsNumber (table n f l g r)
-
-      found : List Float → List Float → List Float → At
-      found l g r = record { number = 0; gain = column g (place l n w); residual = column r (place l n w) }
-
-      same-found : 0 < n → found l g r ≡ found l′ g′ r′
-      same-found p =
-          let i = place-in l n n w p (le-refl n) in
-          (λ k. record { number = 0; gain = column-same g g′ n (place l n w) i hg k; residual = column-same r r′ n (place l n w) i hr k })
-          ∙ ap (λ (q : Place). record { number = 0; gain = column g′ q; residual = column r′ q }) (place-same l l′ n w p hl)

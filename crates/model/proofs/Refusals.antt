@@ -4,18 +4,17 @@ use mathlib.Core.Bool.{Bool, true, false, cond, _&&_}
 use mathlib.Core.List.{List}
 use Prim.Native.Nat.{ℕ, _-_, _≤_, _<_}
 use native.Mathlib.Omega.{arith}
-use lib.Dec.{eqb, ltb, leb}
+use lib.Dec.{ltb, leb}
 use lib.Ieee.{Float}
-use borrow.Author.Tests.{lt-ltb, le-leb, lt-leb, ltb-true, leb-true, eqb-true}
+use borrow.Author.Tests.{lt-ltb, le-leb, lt-leb, ltb-true, leb-true}
 use Rattle.refine.specs.Covariance.{allFinite}
 use Rattle.refine.specs.declared.PositionCovariance.{PositionCovariance}
 use Rattle.refine.proofs.Refusing.{and, and-left, and-right, stands, follows}
 use Rattle.model.specs.declared.SystematicModel.{SystematicModel}
-use Rattle.model.specs.declared.At.{At}
 use Rattle.knots.specs.declared.Width.{Width}
-use Rattle.knots.specs.declared.Place.{Place}
-use Rattle.knots.specs.Places.{every, risesAt, place, column}
-use Rattle.model.specs.Knots.{rising, ranged, knotsNumber, noKnots, atOf}
+use Rattle.knots.specs.Places.{every, risesAt, knotAt, sound}
+use Rattle.model.specs.Knots.{rising, ranged, knotsNumber, noKnots, found, atOf}
+use Rattle.ranges.specs.Ranges.{upTo}
 use Rattle.model.specs.Model as Model
 use Rattle.model.specs.Model.{systematicAt, modelNumber, plain, refusal, modelOf}
 
@@ -44,17 +43,26 @@ module _ (s : SystematicModel) where
     counted : rising (s .widths) (s .count) ≡ every (risesAt (s .widths)) (s .count - 1)
     counted = ap (λ (z : Bool). z && every (risesAt (s .widths)) (s .count - 1)) (and (lt-ltb 0 (s .count) (omega arith)) (le-leb (s .count) 16 q))
 
+    abbrev E : Bool
+    E = every (risesAt (s .widths)) (s .count - 1)
+
+    abbrev K : Bool
+    K = (every (knotAt (s .widths)) (s .count) && every (knotAt (s .gains)) (s .count)) && every (knotAt (s .residuals)) (s .count)
+
     pub not-rising : every (risesAt (s .widths)) (s .count - 1) ≡ false → 14 ≡ knotsNumber s
     unfolding by
     not-rising h = number-is false (ranged s) (counted ∙ h) refl
 
-    pub out-of-range : every (risesAt (s .widths)) (s .count - 1) ≡ true → ranged s ≡ false → 12 ≡ knotsNumber s
+    -- by the test of all knots at once, and that of the floor
+    pub out-of-range : every (risesAt (s .widths)) (s .count - 1) ≡ true → sound (s .widths) (s .gains) (s .residuals) (s .count) && upTo 1000 (s .floor) ≡ false → 12 ≡ knotsNumber s
     unfolding by
-    out-of-range h g = number-is true false (counted ∙ h) g
+    out-of-range h g = number-is true false (counted ∙ h) (sym (ap (λ (b : Bool). (b && K) && upTo 1000 (s .floor)) h) ∙ g)
 
-    pub taken : every (risesAt (s .widths)) (s .count - 1) ≡ true → ranged s ≡ true → 0 ≡ knotsNumber s
+    pub taken : sound (s .widths) (s .gains) (s .residuals) (s .count) && upTo 1000 (s .floor) ≡ true → 0 ≡ knotsNumber s
     unfolding by
-    taken h g = number-is true true (counted ∙ h) g
+    taken g =
+        let e = and-left (E && K) (upTo 1000 (s .floor)) g in
+        number-is true true (counted ∙ and-left E K e) (and (and-right E K e) (and-right (E && K) (upTo 1000 (s .floor)) g))
 
   -- a table that nothing refuses has one to sixteen knots
   by-count : (a b : Bool) → by a b ≡ 0 → a ≡ true
@@ -76,21 +84,9 @@ module _ (s : SystematicModel) where
     unfolding atOf
     at-refused n h e = stands noKnots _ n h e
 
-    pub at-found : 0 ≡ knotsNumber s → {p : Place} {a b : Float} → p ≡ place (s .widths) (s .count) w → a ≡ column (s .gains) p → b ≡ column (s .residuals) p
-        → record { number = 0; gain = a; residual = b } ≡ atOf s w
+    pub at-found : 0 ≡ knotsNumber s → found (s .widths) (s .gains) (s .residuals) (s .count) w ≡ atOf s w
     unfolding atOf
-    at-found z {p} {a} {b} e f g = same (f ∙ ap (column (s .gains)) e) (g ∙ ap (column (s .residuals)) e) ∙ follows noKnots _ z
-      where
-        same : {x y x′ y′ : Float} → x ≡ x′ → y ≡ y′ → _≡_ {A = At} (record { number = 0; gain = x; residual = y }) (record { number = 0; gain = x′; residual = y′ })
-        same f g = λ i. record { number = 0; gain = f i; residual = g i }
-
-    pub at-number : atOf s w .number ≡ knotsNumber s
-    unfolding atOf
-    at-number = pick (knotsNumber s) (eqb (knotsNumber s) 0) _ (eqb-true (knotsNumber s) 0) refl
-      where
-        pick : (n : ℕ) (b : Bool) (a : At) → (b ≡ true → n ≡ 0) → a .number ≡ 0 → (cond b a (noKnots n)) .number ≡ n
-        pick n true a h e = e ∙ sym (h refl)
-        pick n false a h e = refl
+    at-found z = follows noKnots _ z
 
 -- ---- the model
 

@@ -11,6 +11,10 @@ use Rattle.knots.specs.Places.{every, risesAt, knotAt, place, column}
 use Rattle.model.specs.declared.SystematicModel.{SystematicModel}
 use Rattle.model.specs.declared.At.{At}
 
+-- a table of n knots
+abbrev pub table : ℕ → Float → List Float → List Float → List Float → SystematicModel
+table n f l g r = record { widths = l; gains = g; residuals = r; count = n; floor = f }
+
 -- one to sixteen knots, each width above the one before it
 abbrev pub rising : List Float → ℕ → Bool
 rising widths n = (ltb 0 n && leb n 16) && every (risesAt widths) (n - 1)
@@ -27,10 +31,11 @@ knotsNumber s = cond (rising (s .widths) (s .count)) (cond (ranged s) 0 12) 14
 abbrev pub noKnots : ℕ → At
 noKnots n = record { number = n; gain = plusZero; residual = plusZero }
 
--- each column at the width
+-- each column at the width, of n knots
+unfoldable pub found : List Float → List Float → List Float → ℕ → Width → At
+unfolding place column
+found widths gains residuals n w = record { number = 0; gain = column gains (place widths n w); residual = column residuals (place widths n w) }
+
 unfoldable pub atOf : SystematicModel → Width → At
-unfolding knotsNumber place column
-atOf s w =
-    cond (eqb (knotsNumber s) 0)
-    (record { number = 0; gain = column (s .gains) (place (s .widths) (s .count) w); residual = column (s .residuals) (place (s .widths) (s .count) w) })
-    (noKnots (knotsNumber s))
+unfolding knotsNumber found
+atOf s w = cond (eqb (knotsNumber s) 0) (found (s .widths) (s .gains) (s .residuals) (s .count) w) (noKnots (knotsNumber s))

@@ -1,6 +1,7 @@
 // The systematic model of uncertainty.rs, and the covariance model that it makes, by value.
 ghost use mathlib.Core.Path.{_≡_};
-ghost use Rattle.model.specs.Knots.{knotsNumber, atOf};
+ghost use Prim.Native.Nat.{_<_, _≤_};
+ghost use Rattle.model.specs.Knots.{table, knotsNumber, found, atOf};
 ghost use Rattle.model.specs.Systematic.{uniformVariance, about, systematic};
 ghost use Rattle.model.specs.Model.{refusal, modelOf};
 use covariance::CovarianceModel;
@@ -61,38 +62,60 @@ fn systematic_of(g: f32, rho: f32, floor: f32, offset: [f32; 2], grid: f32) -> P
     )
 }
 
-impl SystematicModel {
-    // What refuses the knots: 14, then 12, or 0.
-    fn knots_number(self) -> u32
-        ensures { λ r. ⌜ r ≡ knotsNumber self ⌝ }
-    {
-        let count = self.count;
-        let widths = self.widths;
-        let gains = self.gains;
-        let residuals = self.residuals;
-        if count == 0 {
-            return 14;
-        }
-        if count > 16 {
-            return 14;
-        }
-        if !knots::rises(widths, count - 1) {
-            return 14;
-        }
-        if !(knots::in_range(widths, count)
-            & knots::in_range(gains, count)
-            & knots::in_range(residuals, count)
-            & ranges::up_to_thousand(self.floor)) {
-            return 12;
-        }
-        0
+// What refuses the knots: 14, then 12, or 0.
+fn knots_number(
+    widths: &[f32; 16],
+    gains: &[f32; 16],
+    residuals: &[f32; 16],
+    count: usize,
+    floor: f32,
+) -> u32
+    ensures { λ r. ⌜ r ≡ knotsNumber (table count floor (now (widths .entry)) (now (gains .entry)) (now (residuals .entry))) ⌝ }
+{
+    if count == 0 {
+        return 14;
     }
+    if count > 16 {
+        return 14;
+    }
+    if knots::rises_in_range(widths, gains, residuals, count) & ranges::up_to_thousand(floor) {
+        return 0;
+    }
+    if knots::rises(widths, count - 1) {
+        12
+    } else {
+        14
+    }
+}
 
+// Gain and residual at an edge width, of knots that nothing refuses.
+fn at_knots(
+    widths: &[f32; 16],
+    gains: &[f32; 16],
+    residuals: &[f32; 16],
+    count: usize,
+    width: Width,
+) -> At
+    requires { ⌜ (0 < count) × (count ≤ 16) ⌝ }
+    ensures { λ r. ⌜ r ≡ found (now (widths .entry)) (now (gains .entry)) (now (residuals .entry)) count width ⌝ }
+{
+    let p = knots::place_of(widths, count, width);
+    At {
+        number: 0,
+        gain: knots::interpolated(gains, p),
+        residual: knots::interpolated(residuals, p),
+    }
+}
+
+impl SystematicModel {
     // Gain and residual at an edge width.
     pub fn at(self, width: Width) -> At
         ensures { λ r. ⌜ r ≡ atOf self width ⌝ }
     {
-        let number = self.knots_number();
+        let widths = self.widths;
+        let gains = self.gains;
+        let residuals = self.residuals;
+        let number = knots_number(&widths, &gains, &residuals, self.count, self.floor);
         if number != 0 {
             return At {
                 number,
@@ -100,15 +123,7 @@ impl SystematicModel {
                 residual: 0.0,
             };
         }
-        let widths = self.widths;
-        let gains = self.gains;
-        let residuals = self.residuals;
-        let p = knots::place_of(widths, self.count, width);
-        At {
-            number: 0,
-            gain: knots::interpolated(gains, p),
-            residual: knots::interpolated(residuals, p),
-        }
+        at_knots(&widths, &gains, &residuals, self.count, width)
     }
 
     // The covariance model of an estimate with noise term `noise`, at `offset` px from the centre of its fit window on a
@@ -122,10 +137,14 @@ impl SystematicModel {
     ) -> Modelled
         ensures { λ r. ⌜ r ≡ modelOf self noise offset width grid ⌝ }
     {
-        let at = self.at(width);
-        if at.number != 0 {
-            return refused(at.number);
+        let widths = self.widths;
+        let gains = self.gains;
+        let residuals = self.residuals;
+        let number = knots_number(&widths, &gains, &residuals, self.count, self.floor);
+        if number != 0 {
+            return refused(number);
         }
+        let at = at_knots(&widths, &gains, &residuals, self.count, width);
         if !(ranges::all_within(noise)
             & ranges::both_within(offset)
             & ranges::up_to_thousand(grid)) {

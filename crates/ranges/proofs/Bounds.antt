@@ -7,10 +7,10 @@ use native.Mathlib.Omega.{arith}
 use lib.Dec.{leb, eqb, leb·zero, eqb·suc-zero}
 use lib.IntN.{ℤ, pos, negsuc}
 use lib.Pow.{pow-pos}
-use lib.Ieee.{Float, nan, inf, fin, up, down, le, lt, eq, ne, isNan}
+use lib.Ieee.{Float, nan, inf, fin, up, down, le, lt, eq}
 use lib.Ieee.Fits.{down-pos}
 use lib.Ieee.Exact.{HasValue}
-use borrow.Author.Tests.{le-leb, eq-eqb, ne-eqb}
+use borrow.Author.Tests.{le-leb, ne-eqb}
 use Rattle.ieee.proofs.Comparing.{le-is}
 use Rattle.ranges.specs.Ranges.{within, upTo}
 
@@ -86,12 +86,3 @@ upTo-is q k (fin true zero e) =
 upTo-is q k (fin true (suc m) e) =
     ap (λ (b : Bool). b && le (fin true (suc m) e) (fin false q (pos k))) (minus-zero (suc m) e ∙ eqb·suc-zero m)
     ∙ ap (λ (b : Bool). b && leb (suc m * up e) (q * 2 ^ k * down e)) (sym (eqb·suc-zero m))
-
--- a NaN is what differs from itself
-pub differs : (x : Float) → ne x x ≡ isNan x
-unfolding ne eq isNan
-differs nan = refl
-differs (inf true) = refl
-differs (inf false) = refl
-differs (fin true m e) = rw (eq-eqb (m * up e * down e) (m * up e * down e) refl)
-differs (fin false m e) = rw (eq-eqb (m * up e * down e) (m * up e * down e) refl)

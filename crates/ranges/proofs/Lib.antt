@@ -1,2 +1,4 @@
 pub mod Bounds
 pub mod Examples
+pub mod Largest
+pub mod Negations

@@ -1,7 +1,12 @@
 // Whether floats are in their ranges.
 ghost use mathlib.Core.Path.{_≡_};
+ghost use Rattle.ieee.specs.Order.{finite};
+ghost use Rattle.refine.specs.Covariance.{allFinite};
 ghost use Rattle.ranges.specs.Ranges.{within, upTo, allWithin, bothWithin, level};
 use refine::PositionCovariance;
+
+// The largest number of f32, (2 ^ 24 - 1) * 2 ^ 104.
+const LARGEST: f32 = 3.4028235e38;
 
 pub fn within_thousand(x: f32) -> bool
     ensures { λ r. ⌜ r ≡ within 1000 x ⌝ }
@@ -24,7 +29,20 @@ pub fn up_to_thousand(x: f32) -> bool
 pub fn is_level(x: f32) -> bool
     ensures { λ r. ⌜ r ≡ level x ⌝ }
 {
-    (x != x) | within_thousand(x)
+    !((x < -1000.0) | (1000.0 < x))
+}
+
+// As `float::is_finite32` says it; compared with numbers, as the ranges are, the floats are tested four at a time.
+fn is_number(x: f32) -> bool
+    ensures { λ r. ⌜ r ≡ finite x ⌝ }
+{
+    (-LARGEST <= x) & (x <= LARGEST)
+}
+
+pub fn all_finite(c: PositionCovariance) -> bool
+    ensures { λ r. ⌜ r ≡ allFinite c ⌝ }
+{
+    is_number(c.xx) & is_number(c.xy) & is_number(c.yy)
 }
 
 pub fn all_within(c: PositionCovariance) -> bool

@@ -9,8 +9,7 @@ use lib.Ieee.Exact.{HasValue}
 use Rattle.ieee.specs.Convert.{convert}
 use Rattle.knots.specs.declared.Width.the-variants.{Known}
 use Rattle.ranges.specs.Arith.{plusZero}
-use Rattle.model.specs.Knots.{atOf}
-use Rattle.model.proofs.Laws.{table}
+use Rattle.model.specs.Knots.{table, atOf}
 use Rattle.window.specs.Readings.{windowReadings, Reads}
 use Rattle.window.specs.Readings as Window
 use Rattle.band.specs.Bands.{bandOf}

@@ -1,15 +1,19 @@
--- The constant is the f32 nearest to 1 / 12. Assumes nothing.
-use lib.Ieee.{ofBits}
-use borrow.Author.Needs.{needs}
+-- Each way out is the one that the test chooses. The constant is the f32 nearest to 1 / 12. Assumes nothing.
+use mathlib.Core.Path.{_∙_}
+use lib.Ieee.{ofBits, le}
+use Rattle.laws.proofs.Choice.{chosen, passed}
+use Rattle.ranges.specs.Arith.{_⊗_, twelfth}
+use Rattle.covariance.proofs.Formulas.{larger-is}
 use Rattle.covariance.proofs.variance_of.Statement.{statement}
 use Rattle.covariance.proofs.variance_of.Tie as tie
 
-max32-requires : tie.Need-max32-requires
-max32-requires c κs = search needs
-
 returns : tie.Need-returns
 unfolding ofBits
-returns c = c .max32 .ensures
+returns c = let s = c .before .args .sigma in chosen (le twelfth (s ⊗ s)) (s ⊗ s) twelfth (c .if1 .taken) ∙ larger-is (s ⊗ s)
+
+returns-2 : tie.Need-returns-2
+unfolding ofBits
+returns-2 c = let s = c .before .args .sigma in passed (le twelfth (s ⊗ s)) (s ⊗ s) twelfth (c .if1 .left) ∙ larger-is (s ⊗ s)
 
 pub variance-of-spec : {M : Type 1} → statement M
-variance-of-spec = tie.close (tie.spec max32-requires returns)
+variance-of-spec = tie.close (tie.spec returns returns-2)

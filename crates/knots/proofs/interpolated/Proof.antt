@@ -1,5 +1,6 @@
 -- The place lies among the sixteen knots, and each arm is a case of the definition. Assumes nothing.
 use mathlib.Core.Path.{sym, ap, _∙_, subst}
+use denote.Ref.{now}
 use Prim.Native.Nat.{_+_, _<_}
 use native.Mathlib.Omega.{arith}
 use borrow.Author.Needs.{needs}
@@ -19,8 +20,8 @@ enum-known-p c = search needs
 mul-result : tie.Need-mul-result
 mul-result c = omega (arith, knot (c .before))
 
-array-read-result : tie.Need-array-read-result
-array-read-result c = knot (c .before)
+element-copy-out-result : tie.Need-element-copy-out-result
+element-copy-out-result c = knot (c .before)
 
 enum-known-p-2 : tie.Need-enum-known-p-2
 enum-known-p-2 c = search needs
@@ -28,28 +29,28 @@ enum-known-p-2 c = search needs
 mul-blended : tie.Need-mul-blended
 mul-blended c = omega (arith, next (c .before))
 
-array-read-blended : tie.Need-array-read-blended
-array-read-blended c = omega (arith, next (c .before))
+element-copy-out-blended : tie.Need-element-copy-out-blended
+element-copy-out-blended c = omega (arith, next (c .before))
 
 add-blended : tie.Need-add-blended
-add-blended c = omega (arith, next (c .before))
+add-blended c = omega (arith, next (c .before .before))
 
 mul-blended-2 : tie.Need-mul-blended-2
-mul-blended-2 c = omega (arith, next (c .before))
+mul-blended-2 c = omega (arith, next (c .before .before))
 
-array-read-blended-2 : tie.Need-array-read-blended-2
-array-read-blended-2 c = next (c .before)
+element-copy-out-blended-2 : tie.Need-element-copy-out-blended-2
+element-copy-out-blended-2 c = next (c .before .before)
 
 blended-requires : tie.Need-blended-requires
 blended-requires c κs = search needs
 
 returns : tie.Need-returns
 unfolding column
-returns c = let k = c .before in ap (column (k .before .before .args .t1)) (sym (k .p .given .1))
+returns c = let k = c .before .before in ap (column (now (k .before .before .args .values))) (sym (k .p .given .1))
 
 returns-2 : tie.Need-returns-2
 unfolding column
-returns-2 c = let k = c .before .before in c .blended .ensures ∙ ap (column (k .before .before .args .t1)) (sym (k .p2 .given .1))
+returns-2 c = let k = c .before .before .before .before in c .blended .ensures ∙ ap (column (now (k .before .before .args .values))) (sym (k .p2 .given .1))
 
 pub interpolated-spec : {M : Type 1} → statement M
 interpolated-spec =
@@ -57,13 +58,13 @@ interpolated-spec =
     (tie.spec
     enum-known-p
     mul-result
-    array-read-result
+    element-copy-out-result
     enum-known-p-2
     mul-blended
-    array-read-blended
+    element-copy-out-blended
     add-blended
     mul-blended-2
-    array-read-blended-2
+    element-copy-out-blended-2
     blended-requires
     returns
     returns-2)

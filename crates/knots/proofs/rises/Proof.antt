@@ -8,10 +8,10 @@ use Rattle.knots.proofs.rises.Statement.{statement}
 use Rattle.knots.proofs.rises.Tie as tie
 
 abbrev Inv-loop : tie.InvT-loop
-Inv-loop n widths all₀ k₀ all k = Every (risesAt widths) n k all
+Inv-loop widths n all₀ k₀ all k = Every (risesAt widths) n k all
 
 abbrev μ-loop : tie.MeasureT-loop
-μ-loop n widths all₀ k₀ all k = n - k
+μ-loop widths n all₀ k₀ all k = n - k
 
 loop-holds : tie.Need-loop-holds Inv-loop μ-loop
 loop-holds c = every-start
@@ -19,8 +19,8 @@ loop-holds c = every-start
 mul-all : tie.Need-mul-all Inv-loop μ-loop
 mul-all c = omega arith
 
-array-read-all : tie.Need-array-read-all Inv-loop μ-loop
-array-read-all c = omega arith
+element-copy-out-all : tie.Need-element-copy-out-all Inv-loop μ-loop
+element-copy-out-all c = omega arith
 
 add-all : tie.Need-add-all Inv-loop μ-loop
 add-all c = omega arith
@@ -28,8 +28,8 @@ add-all c = omega arith
 mul-all-2 : tie.Need-mul-all-2 Inv-loop μ-loop
 mul-all-2 c = omega arith
 
-array-read-all-2 : tie.Need-array-read-all-2 Inv-loop μ-loop
-array-read-all-2 c = omega arith
+element-copy-out-all-2 : tie.Need-element-copy-out-all-2 Inv-loop μ-loop
+element-copy-out-all-2 c = omega arith
 
 add-k : tie.Need-add-k Inv-loop μ-loop
 add-k c = omega arith
@@ -38,7 +38,7 @@ loop-less : tie.Need-loop-less Inv-loop μ-loop
 loop-less c = omega arith
 
 loop-again : tie.Need-loop-again Inv-loop μ-loop
-loop-again c = every-more (c .before .loop .inv) (c .loop-test .taken) refl
+loop-again c = every-more (c .before .before .before .loop .inv) (c .before .before .loop-test .taken) refl
 
 returns : tie.Need-returns Inv-loop μ-loop
 returns c = every-end (c .before .loop .inv) (c .loop-test .left)
@@ -51,10 +51,10 @@ rises-spec =
     μ-loop
     loop-holds
     mul-all
-    array-read-all
+    element-copy-out-all
     add-all
     mul-all-2
-    array-read-all-2
+    element-copy-out-all-2
     add-k
     loop-less
     loop-again

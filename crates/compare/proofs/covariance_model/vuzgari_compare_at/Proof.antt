@@ -3,15 +3,15 @@ use mathlib.Core.Path.{_≡_, ap, _∙_}
 use denote.Ref.{now}
 use borrow.Author.Needs.{needs}
 use Rattle.model.specs.declared.At.{At}
-use Rattle.model.specs.Knots.{atOf}
-use Rattle.compare.specs.Models.{table, wide, gained}
+use Rattle.model.specs.Knots.{table, atOf}
+use Rattle.compare.specs.Models.{wide, gained}
 use Rattle.compare.proofs.covariance_model.vuzgari_compare_at.Statement.{statement}
 use Rattle.compare.proofs.covariance_model.vuzgari_compare_at.Tie as tie
 
-answer : (c : tie.After-at) → let a = c .before .before .before .before .before .args in c .at .result ≡ atOf (table (now (a .widths)) (now (a .gains)) (now (a .residuals)) (a .count) (a .floor)) (wide (a .known) (a .w))
+answer : (c : tie.After-at) → let a = c .before .before .before .before .before .args in c .at .result ≡ atOf (table (a .count) (a .floor) (now (a .widths)) (now (a .gains)) (now (a .residuals))) (wide (a .known) (a .w))
 answer c =
     let a = c .before .before .before .before .before .args in
-    c .at .ensures ∙ ap (atOf (table (now (a .widths)) (now (a .gains)) (now (a .residuals)) (a .count) (a .floor))) (c .before .width-of .ensures)
+    c .at .ensures ∙ ap (atOf (table (a .count) (a .floor) (now (a .widths)) (now (a .gains)) (now (a .residuals)))) (c .before .width-of .ensures)
 
 -- src/covariance_model.rt:49:22
 width-of-requires : tie.Need-width-of-requires

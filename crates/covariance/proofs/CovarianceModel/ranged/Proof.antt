@@ -7,8 +7,8 @@ use Rattle.covariance.proofs.CovarianceModel.ranged.Tie as tie
 all-within-requires : tie.Need-all-within-requires
 all-within-requires c κs = search needs
 
-is-finite-requires : tie.Need-is-finite-requires
-is-finite-requires c κs = search needs
+all-finite-requires : tie.Need-all-finite-requires
+all-finite-requires c κs = search needs
 
 both-within-requires : tie.Need-both-within-requires
 both-within-requires c κs = search needs
@@ -17,14 +17,14 @@ is-level-requires : tie.Need-is-level-requires
 is-level-requires c κs = search needs
 
 returns : tie.Need-returns
-returns c = rw (c .before .before .before .all-within .ensures, c .before .before .is-finite .ensures, c .before .both-within .ensures, c .is-level .ensures) refl
+returns c = rw (c .before .before .before .all-within .ensures, c .before .before .all-finite .ensures, c .before .both-within .ensures, c .is-level .ensures) refl
 
 pub ranged-spec : {M : Type 1} → statement M
 ranged-spec =
     tie.close
     (tie.spec
     all-within-requires
-    is-finite-requires
+    all-finite-requires
     both-within-requires
     is-level-requires
     returns)

@@ -1,21 +1,17 @@
--- Zeros under the knots' number, or each column at the width's place. Assumes nothing.
-use mathlib.Core.Path.{_≡_, sym, _∙_, subst}
+-- Zeros under the knots' number, or what they give at the width. Assumes nothing.
+use mathlib.Core.Path.{_≡_, sym, _∙_}
 use lib.Ieee.{ofBits}
 use borrow.Author.Needs.{needs}
-use Rattle.knots.specs.Places.{Inside}
 use Rattle.model.specs.Knots.{knotsNumber}
-use Rattle.knots.proofs.Tables.{place-in}
 use Rattle.model.proofs.Refusals.{knots, at-refused, at-found}
 use Rattle.model.proofs.SystematicModel.at.Statement.{statement}
 use Rattle.model.proofs.SystematicModel.at.Tie as tie
 
-no-number : (c : tie.Else1) → 0 ≡ knotsNumber (c .before .before .args .self)
-no-number c = sym (c .if1 .left) ∙ c .before .knots-number .ensures
+abbrev start : tie.After-knots-number → tie.Start
+start c = c .before .before .before .before .before .before .before
 
-among : (c : tie.After-place-of) → Inside 16 (c .place-of .result)
-among c =
-    let e = c .before .before .before .before in
-    subst (Inside 16) (sym (c .place-of .ensures)) (place-in _ _ 16 _ (knots _ (no-number e) .0) (knots _ (no-number e) .1))
+no-number : (c : tie.Else1) → 0 ≡ knotsNumber (start (c .before) .args .self)
+no-number c = sym (c .if1 .left) ∙ c .before .knots-number .ensures
 
 knots-number-requires : tie.Need-knots-number-requires
 knots-number-requires c κs = search needs
@@ -24,25 +20,11 @@ returns : tie.Need-returns
 unfolding ofBits
 returns c = at-refused _ _ _ (c .if1 .taken) (c .before .knots-number .ensures)
 
-place-of-requires : tie.Need-place-of-requires
-place-of-requires c κs = knots _ (no-number (c .before .before .before))
-
-interpolated-requires : tie.Need-interpolated-requires
-interpolated-requires c κs = among c
-
-interpolated-requires-2 : tie.Need-interpolated-requires-2
-interpolated-requires-2 c κs = among (c .before)
+at-knots-requires : tie.Need-at-knots-requires
+at-knots-requires c κs = knots _ (no-number (c .before .before .before))
 
 returns-2 : tie.Need-returns-2
-returns-2 c = let p = c .before .before in at-found _ _ (no-number (p .before .before .before .before)) (p .place-of .ensures) (c .before .interpolated .ensures) (c .interpolated2 .ensures)
+returns-2 c = c .at-knots .ensures ∙ at-found _ _ (no-number (c .before .before .before .before))
 
 pub at-spec : {M : Type 1} → statement M
-at-spec =
-    tie.close
-    (tie.spec
-    knots-number-requires
-    returns
-    place-of-requires
-    interpolated-requires
-    interpolated-requires-2
-    returns-2)
+at-spec = tie.close (tie.spec knots-number-requires returns at-knots-requires returns-2)

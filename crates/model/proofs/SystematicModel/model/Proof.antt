@@ -6,29 +6,36 @@ use borrow.Author.Tests.{not-true, not-false}
 use borrow.Author.Needs.{needs}
 use Rattle.refine.proofs.Refusing.{and}
 use Rattle.model.specs.declared.At.{At}
-use Rattle.model.specs.Knots.{knotsNumber}
+use Rattle.model.specs.Knots.{knotsNumber, atOf}
 use Rattle.model.specs.Systematic.{systematic}
 use Rattle.model.specs.Model.{ranged, systematicAt}
-use Rattle.model.proofs.Refusals.{at-number, model-knots, model-12, model-13, model-0}
+use Rattle.model.proofs.Refusals.{knots, at-found, model-knots, model-12, model-13, model-0}
 use Rattle.model.proofs.SystematicModel.model.Statement.{statement}
 use Rattle.model.proofs.SystematicModel.model.Tie as tie
 
-number : (c : tie.After-at) → c .at .result .number ≡ knotsNumber (c .before .args .self)
-number c = ap (λ (a : At). a .number) (c .at .ensures) ∙ at-number _ _
+abbrev start : tie.After-knots-number → tie.Start
+start c = c .before .before .before .before .before .before .before
 
-no-number : (c : tie.Else1) → 0 ≡ knotsNumber (c .before .before .before .args .self)
-no-number c = sym (c .if1 .left) ∙ number (c .before .before)
+-- where nothing refuses the knots
+abbrev taken : tie.After-at-knots → tie.Else1
+taken c = c .before .before .before .before
+
+no-number : (c : tie.Else1) → 0 ≡ knotsNumber (start (c .before) .args .self)
+no-number c = sym (c .if1 .left) ∙ c .before .knots-number .ensures
+
+at : (c : tie.After-at-knots) → let a = start (taken c .before) .args in c .at-knots .result ≡ atOf (a .self) (a .width)
+at c = c .at-knots .ensures ∙ at-found _ _ (no-number (taken c))
 
 -- what the three tests of ranges say together
-ranges : (c : tie.After-up-to-thousand) → let a = c .before .before .before .before .before .before .args in ranged (a .noise) (a .offset) (a .grid) ≡ (c .before .before .all-within .result && c .before .both-within .result) && c .up-to-thousand .result
+ranges : (c : tie.After-up-to-thousand) → let a = start (taken (c .before .before .before) .before) .args in ranged (a .noise) (a .offset) (a .grid) ≡ (c .before .before .all-within .result && c .before .both-within .result) && c .up-to-thousand .result
 ranges c = and (and (sym (c .before .before .all-within .ensures)) (sym (c .before .both-within .ensures))) (sym (c .up-to-thousand .ensures))
 
 -- the systematic part, at the answer of `at`
-part : (c : tie.After-systematic-of) → let a = c .before .before .before .before .before .before .before .before .args in c .systematic-of .result ≡ systematicAt (a .self) (a .offset) (a .width) (a .grid)
-part c = let d = c .before .before .before .before .before .before .before in let a = d .before .args in c .systematic-of .ensures ∙ ap (λ (r : At). systematic (r .gain) (r .residual) (a .self .floor) (a .offset) (a .grid)) (d .at .ensures)
+part : (c : tie.After-systematic-of) → let a = start (taken (c .before .before .before .before .before) .before) .args in c .systematic-of .result ≡ systematicAt (a .self) (a .offset) (a .width) (a .grid)
+part c = let d = c .before .before .before .before .before in let a = start (taken d .before) .args in c .systematic-of .ensures ∙ ap (λ (r : At). systematic (r .gain) (r .residual) (a .self .floor) (a .offset) (a .grid)) (at d)
 
-at-requires : tie.Need-at-requires
-at-requires c κs = search needs
+knots-number-requires : tie.Need-knots-number-requires
+knots-number-requires c κs = search needs
 
 refused-requires : tie.Need-refused-requires
 refused-requires c κs = search needs
@@ -36,7 +43,10 @@ refused-requires c κs = search needs
 returns : tie.Need-returns
 returns c =
     let t = c .before in
-    c .refused .ensures ∙ model-knots _ _ _ _ _ _ (t .if1 .taken) (number (t .before .before))
+    c .refused .ensures ∙ model-knots _ _ _ _ _ _ (t .if1 .taken) (t .before .knots-number .ensures)
+
+at-knots-requires : tie.Need-at-knots-requires
+at-knots-requires c κs = knots _ (no-number (c .before .before .before))
 
 all-within-requires : tie.Need-all-within-requires
 all-within-requires c κs = search needs
@@ -53,7 +63,7 @@ refused-requires-2 c κs = search needs
 returns-2 : tie.Need-returns-2
 returns-2 c =
     let t = c .before in
-    c .refused2 .ensures ∙ model-12 _ _ _ _ _ (no-number (t .before .before .before .before)) (ranges (t .before) ∙ not-true _ (t .if2 .taken))
+    c .refused2 .ensures ∙ model-12 _ _ _ _ _ (no-number (taken (t .before .before .before .before))) (ranges (t .before) ∙ not-true _ (t .if2 .taken))
 
 systematic-of-requires : tie.Need-systematic-of-requires
 systematic-of-requires c κs = search needs
@@ -68,21 +78,22 @@ returns-3 : tie.Need-returns-3
 returns-3 c =
     let t = c .before in let p = t .before .before in let r = p .before in
     c .refused3 .ensures
-    ∙ model-13 _ _ _ _ _ (no-number (r .before .before .before .before)) (ranges (r .before) ∙ not-false _ (r .if2 .left)) (part p) (sym (t .before .is-finite .ensures) ∙ not-true _ (t .if3 .taken))
+    ∙ model-13 _ _ _ _ _ (no-number (taken (r .before .before .before .before))) (ranges (r .before) ∙ not-false _ (r .if2 .left)) (part p) (sym (t .before .is-finite .ensures) ∙ not-true _ (t .if3 .taken))
 
 returns-4 : tie.Need-returns-4
 unfolding ofBits
 returns-4 c =
     let p = c .before .before in let r = p .before in
-    model-0 _ _ _ _ _ (no-number (r .before .before .before .before)) (ranges (r .before) ∙ not-false _ (r .if2 .left)) (part p) (sym (c .before .is-finite .ensures) ∙ not-false _ (c .if3 .left))
+    model-0 _ _ _ _ _ (no-number (taken (r .before .before .before .before))) (ranges (r .before) ∙ not-false _ (r .if2 .left)) (part p) (sym (c .before .is-finite .ensures) ∙ not-false _ (c .if3 .left))
 
 pub model-spec : {M : Type 1} → statement M
 model-spec =
     tie.close
     (tie.spec
-    at-requires
+    knots-number-requires
     refused-requires
     returns
+    at-knots-requires
     all-within-requires
     both-within-requires
     up-to-thousand-requires
