@@ -5,19 +5,33 @@ ghost use Prim.Native.Nat.{_*_, _≤_};
 ghost use lib.ListN.{length, drop};
 ghost use Rattle.io.specs.Counts.{Counts};
 ghost use Rattle.answer.specs.Fields.{wordsOf};
-ghost use Rattle.lid.specs.Input.{mostPixels, says, parsedOf};
+ghost use Rattle.lid.specs.Input.{mostPixels, inputBytes, says, parsedOf};
 ghost use Rattle.lid.specs.Answer.{noiseAnswer, lidAnswer};
 ghost use Rattle.lid.specs.Report.{reportBytes, reportOf, outputOf};
 use answer::Answer;
 
 // More pixels than this are 16.
-pub const MOST_PIXELS: usize = 4096;
+const MOST_PIXELS: usize = 4096;
 
 // As many bytes as decide the answer: one more than the largest lid has.
-pub const INPUT_BYTES: usize = 4 + MOST_PIXELS + 1;
+const INPUT_BYTES: usize = 4 + MOST_PIXELS + 1;
 
 // As many as a report may take.
-pub const REPORT_BYTES: usize = 260;
+const REPORT_BYTES: usize = 260;
+
+// Room for an input.
+pub fn input_room() -> [u8; INPUT_BYTES]
+    ensures { λ r. ⌜ length r ≡ inputBytes ⌝ }
+{
+    [0u8; INPUT_BYTES]
+}
+
+// Room for a report.
+pub fn report_room() -> [u8; REPORT_BYTES]
+    ensures { λ r. ⌜ length r ≡ reportBytes ⌝ }
+{
+    [0u8; REPORT_BYTES]
+}
 
 // The image that an input holds, by its sides, or why it holds none.
 pub enum Input {
@@ -71,19 +85,14 @@ fn wide(x: u32) -> u64
 fn values(a: Answer) -> [u64; 10]
     ensures { λ r. ⌜ r ≡ wordsOf a ⌝ }
 {
-    let w = answer::words(a);
-    [
-        wide(w[0]),
-        wide(w[1]),
-        wide(w[2]),
-        wide(w[3]),
-        wide(w[4]),
-        wide(w[5]),
-        wide(w[6]),
-        wide(w[7]),
-        wide(w[8]),
-        wide(w[9]),
-    ]
+    let words = answer::words(a);
+    let mut out = [0u64; 10];
+    let mut k = 0;
+    while k < 10 {
+        out[k] = wide(words[k]);
+        k += 1;
+    }
+    out
 }
 
 // The header and the line of an answer, from the front on: answers how long they are.

@@ -3,9 +3,9 @@ use libc::STDIN_FILENO;
 use libc::STDOUT_FILENO;
 
 fn main() {
-    let mut input = [0u8; lid::INPUT_BYTES];
+    let mut input = lid::input_room();
     let n = io::read_full(STDIN_FILENO, &mut input);
-    let mut out = [0u8; lid::REPORT_BYTES];
+    let mut out = lid::report_room();
     let k = lid::lidnoise(&input[..n], &mut out);
     io::write_all(STDOUT_FILENO, &out[..k]);
 }

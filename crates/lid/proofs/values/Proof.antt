@@ -1,116 +1,68 @@
--- The ten words, each widened.
-use mathlib.Core.Path.{ap, _∙_}
-use mathlib.Core.List.{List, [], _∷_}
-use Prim.Native.Nat.{ℕ}
-use lib.ListN.{getD}
+-- The ten words one after the other, each widened.
+use mathlib.Core.Path.{_≡_, refl, ap, _∙_}
+use mathlib.Core.List.{List}
+use Prim.Native.Nat.{ℕ, _-_}
+use native.Mathlib.Omega.{arith}
 use borrow.Author.Needs.{needs}
+use lib.ListN.{getD}
+use Rattle.laws.specs.Lists.{from}
+use Rattle.laws.proofs.Fill.{Tab, tab-start, tab-put, tab-end}
 use Rattle.lid.proofs.values.Statement.{statement}
 use Rattle.lid.proofs.values.Tie as tie
-use Rattle.lid.proofs.values.Reads as reads
-use Rattle.lid.proofs.values.Lts as lts
-use Rattle.answer.proofs.words.Reads as words-reads
-use Rattle.lid.proofs.wide.Reads as wide-reads
 
--- a list of ten by its places
-abbrev table : List ℕ → List ℕ
-table l =
-    getD l 0 0 ∷ getD l 1 0 ∷ getD l 2 0 ∷ getD l 3 0 ∷ getD l 4 0 ∷ getD l 5 0 ∷ getD l 6 0 ∷ getD l 7 0 ∷ getD l 8 0 ∷ getD l 9 0 ∷ []
+abbrev Inv-loop : tie.InvT-loop
+Inv-loop words out₀ k₀ out k = Tab (λ i. getD words i 0) 10 k out
 
-words-requires : tie.Need-words-requires
+abbrev μ-loop : tie.MeasureT-loop
+μ-loop words out₀ k₀ out k = 10 - k
+
+words-requires : tie.Need-words-requires Inv-loop μ-loop
 words-requires c κs = search needs
 
-array-read-wide : tie.Need-array-read-wide
-array-read-wide c = search needs
+loop-holds : tie.Need-loop-holds Inv-loop μ-loop
+loop-holds c = tab-start _ refl
 
-wide-requires : tie.Need-wide-requires
+mul-wide : tie.Need-mul-wide Inv-loop μ-loop
+mul-wide c = omega arith
+
+array-read-wide : tie.Need-array-read-wide Inv-loop μ-loop
+array-read-wide c = omega arith
+
+wide-requires : tie.Need-wide-requires Inv-loop μ-loop
 wide-requires c κs = search needs
 
-array-read-wide-2 : tie.Need-array-read-wide-2
-array-read-wide-2 c = search needs
+mul-out : tie.Need-mul-out Inv-loop μ-loop
+mul-out c = omega arith
 
-wide-requires-2 : tie.Need-wide-requires-2
-wide-requires-2 c κs = search needs
+array-write-out : tie.Need-array-write-out Inv-loop μ-loop
+array-write-out c = omega arith
 
-array-read-wide-3 : tie.Need-array-read-wide-3
-array-read-wide-3 c = search needs
+add-k : tie.Need-add-k Inv-loop μ-loop
+add-k c = omega arith
 
-wide-requires-3 : tie.Need-wide-requires-3
-wide-requires-3 c κs = search needs
+loop-less : tie.Need-loop-less Inv-loop μ-loop
+loop-less c = omega arith
 
-array-read-wide-4 : tie.Need-array-read-wide-4
-array-read-wide-4 c = search needs
+loop-again : tie.Need-loop-again Inv-loop μ-loop
+loop-again c = tab-put (c .before .before .loop .inv) (omega arith) (c .wide .ensures)
 
-wide-requires-4 : tie.Need-wide-requires-4
-wide-requires-4 c κs = search needs
-
-array-read-wide-5 : tie.Need-array-read-wide-5
-array-read-wide-5 c = search needs
-
-wide-requires-5 : tie.Need-wide-requires-5
-wide-requires-5 c κs = search needs
-
-array-read-wide-6 : tie.Need-array-read-wide-6
-array-read-wide-6 c = search needs
-
-wide-requires-6 : tie.Need-wide-requires-6
-wide-requires-6 c κs = search needs
-
-array-read-wide-7 : tie.Need-array-read-wide-7
-array-read-wide-7 c = search needs
-
-wide-requires-7 : tie.Need-wide-requires-7
-wide-requires-7 c κs = search needs
-
-array-read-wide-8 : tie.Need-array-read-wide-8
-array-read-wide-8 c = search needs
-
-wide-requires-8 : tie.Need-wide-requires-8
-wide-requires-8 c κs = search needs
-
-array-read-wide-9 : tie.Need-array-read-wide-9
-array-read-wide-9 c = search needs
-
-wide-requires-9 : tie.Need-wide-requires-9
-wide-requires-9 c κs = search needs
-
-array-read-wide-10 : tie.Need-array-read-wide-10
-array-read-wide-10 c = search needs
-
-wide-requires-10 : tie.Need-wide-requires-10
-wide-requires-10 c κs = search needs
-
-returns : tie.Need-returns
-returns c =
-    let w1 = c .before .before .before .before .before .before .before .before .before in
-    (λ i. w1 .wide .ensures i ∷ c .before .before .before .before .before .before .before .before .wide2 .ensures i
-    ∷ c .before .before .before .before .before .before .before .wide3 .ensures i ∷ c .before .before .before .before .before .before .wide4 .ensures i
-    ∷ c .before .before .before .before .before .wide5 .ensures i ∷ c .before .before .before .before .wide6 .ensures i
-    ∷ c .before .before .before .wide7 .ensures i ∷ c .before .before .wide8 .ensures i ∷ c .before .wide9 .ensures i ∷ c .wide10 .ensures i ∷ [])
-    ∙ ap table (w1 .before .words .ensures)
+returns : tie.Need-returns Inv-loop μ-loop
+returns c = tab-end (c .before .loop .inv) (omega arith) ∙ ap (λ (l : List ℕ). from (λ i. getD l i 0) 0 10) (c .before .before .words .ensures)
 
 pub values-spec : {M : Type 1} → statement M
 values-spec =
     tie.close
     (tie.spec
+    Inv-loop
+    μ-loop
     words-requires
+    loop-holds
+    mul-wide
     array-read-wide
     wide-requires
-    array-read-wide-2
-    wide-requires-2
-    array-read-wide-3
-    wide-requires-3
-    array-read-wide-4
-    wide-requires-4
-    array-read-wide-5
-    wide-requires-5
-    array-read-wide-6
-    wide-requires-6
-    array-read-wide-7
-    wide-requires-7
-    array-read-wide-8
-    wide-requires-8
-    array-read-wide-9
-    wide-requires-9
-    array-read-wide-10
-    wide-requires-10
+    mul-out
+    array-write-out
+    add-k
+    loop-less
+    loop-again
     returns)
