@@ -1,15 +1,16 @@
 -- The definitions mean what document 01 says: `clamped` is the nearest number of the range, and inside the image `pixel` is that row's and that column's.
 use mathlib.Core.Path.{_≡_, refl, sym, ap, _∙_}
-use mathlib.Core.Bool.{Bool, true, false, cond, not}
+use mathlib.Core.Bool.{Bool, true, false, cond, not, _||_}
 use mathlib.Core.List.{List}
 use Prim.Native.Nat.{ℕ, zero, suc, _+_, _*_, _-_, _≤_, _<_, min}
 use native.Mathlib.Nat.{mul-le-mul-right}
 use native.Mathlib.Omega.{arith}
 use borrow.Author.Tests.{ne-eqb}
-use lib.Dec.{T, ltb, ltb→lt, nltb→le}
+use lib.Dec.{T, ltb, eqb, ltb→lt, nltb→le}
 use lib.ListN.{getD}
 use lib.IntN.{ℤ, pos, negsuc, natAbs, subℕ, _+ℤ_, _-ℤ_}
 use Rattle.laws.proofs.Machine.{cond-ind}
+use Rattle.laws.proofs.Choice.{passed}
 use Rattle.imageview.specs.Sample.{clamped, pixel}
 
 -- how far two numbers are apart
@@ -42,14 +43,20 @@ pub inside : (l : List ℕ) (w h : ℕ) (origin : List ℤ) (x y : ℤ) (column 
     → pixel l w h origin x y ≡ getD l (row * w + column) 0
 unfolding pixel clamped
 inside l w h origin x y column row p q c r =
-    rw (ne-eqb w 0 (some w column c), ne-eqb h 0 (some h row r), p, q)
-    (ap (λ (i : ℕ). getD l i 0) (λ i. under h row r i * w + under w column c i))
+    sym (passed (eqb w 0 || eqb h 0) 0 (getD l (clamped (y +ℤ getD origin 1 (pos 0)) (h - 1) * w + clamped (x +ℤ getD origin 0 (pos 0)) (w - 1)) 0) full)
+    ∙ ap (λ (i : ℕ). getD l i 0) (λ i. at h row y 1 q r i * w + at w column x 0 p c i)
   where
     some : (n k : ℕ) → k < n → n ≡ 0 → ⊥
     some n k h e = omega arith
 
     under : (n k : ℕ) → k < n → min k (n - 1) ≡ k
     under n k h = omega arith
+
+    full : (eqb w 0 || eqb h 0) ≡ false
+    full = rw (ne-eqb w 0 (some w column c), ne-eqb h 0 (some h row r)) refl
+
+    at : (n k : ℕ) (z : ℤ) (i : ℕ) → z +ℤ getD origin i (pos 0) ≡ pos k → k < n → clamped (z +ℤ getD origin i (pos 0)) (n - 1) ≡ k
+    at n k z i e h = ap (λ (z : ℤ). clamped z (n - 1)) e ∙ under n k h
 
 -- a place of row y and column x is one of the w × h
 pub in-image : (w h x y : ℕ) → (w ≡ 0 → ⊥) → (h ≡ 0 → ⊥) → x ≤ w - 1 → y ≤ h - 1 → y * w + x < w * h
