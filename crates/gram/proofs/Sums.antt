@@ -68,15 +68,15 @@ module _ (gx gy : List Float) where
       start : (l : ℕ) {p : Three} → p ≡ none → Added gx gy 4 l none 0 p
       start l e = subst (λ (p : Three). Added gx gy 4 l none 0 p) (sym e) (added-start 4 l none)
 
-  pub fours-more : {k : ℕ} {p0 p1 p2 p3 r0 r1 r2 r3 : Three} → FourSums gx gy k p0 p1 p2 p3
-      → Added gx gy 1 (k * 4) p0 1 r0 → Added gx gy 1 (k * 4 + 1) p1 1 r1 → Added gx gy 1 (k * 4 + 2) p2 1 r2 → Added gx gy 1 (k * 4 + 3) p3 1 r3
+  pub fours-more : {k i0 i1 i2 i3 : ℕ} {p0 p1 p2 p3 r0 r1 r2 r3 : Three} → FourSums gx gy k p0 p1 p2 p3
+      → Added gx gy 1 i0 p0 1 r0 → i0 ≡ k * 4 + 0 → Added gx gy 1 i1 p1 1 r1 → i1 ≡ k * 4 + 1 → Added gx gy 1 i2 p2 1 r2 → i2 ≡ k * 4 + 2 → Added gx gy 1 i3 p3 1 r3 → i3 ≡ k * 4 + 3
       → FourSums gx gy (k + 1) r0 r1 r2 r3
-  fours-more {k} f e0 e1 e2 e3 =
+  fours-more {k} {i0} {i1} {i2} {i3} f e0 q0 e1 q1 e2 q2 e3 q3 =
       record {
-        zeroth = added-more 4 0 none k (k * 4) (f .zeroth) (omega arith) e0;
-        first = added-more 4 1 none k (k * 4 + 1) (f .first) refl e1;
-        second = added-more 4 2 none k (k * 4 + 2) (f .second) refl e2;
-        third = added-more 4 3 none k (k * 4 + 3) (f .third) refl e3;
+        zeroth = added-more 4 0 none k i0 (f .zeroth) q0 e0;
+        first = added-more 4 1 none k i1 (f .first) q1 e1;
+        second = added-more 4 2 none k i2 (f .second) q2 e2;
+        third = added-more 4 3 none k i3 (f .third) q3 e3;
       }
 
   pub fours-end : {n m : ℕ} {p0 p1 p2 p3 : Three} → FourSums gx gy n p0 p1 p2 p3 → n ≤ m → m ≤ n → FourSums gx gy m p0 p1 p2 p3
