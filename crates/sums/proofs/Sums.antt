@@ -32,7 +32,10 @@ summed-start t c g o a m = record { low = omega arith; sum = refl }
 pub sum-next : (t c : Float) (g o : List Float) (a k : ℕ) {s v : Float} → s ≡ blockSum t c g o a k → v ≡ value t c (at g (a + k)) (at o (a + k))
     → add binary32 s v ≡ blockSum t c g o a (k + 1)
 sum-next t c g o a k {s} {v} p q =
-    ap (λ (x : Float). add binary32 x v) p ∙ ap (λ (x : Float). add binary32 (blockSum t c g o a k) x) q ∙ sym (ap (blockSum t c g o a) (add-one k))
+    (λ i. add binary32 (p i) (q i)) ∙ sym (ap (blockSum t c g o a) (add-one k) ∙ one-more)
+  where
+    one-more : blockSum t c g o a (suc k) ≡ add binary32 (blockSum t c g o a k) (value t c (at g (a + k)) (at o (a + k)))
+    one-more = refl
 
 module _ {t c : Float} {g o : List Float} {a m : ℕ} {s : Float} {k : ℕ} (i : Summed t c g o a m s k) where
   pub summed-more : k < m → {v : Float} → v ≡ value t c (at g (a + k)) (at o (a + k)) → Summed t c g o a m (add binary32 s v) (k + 1)
