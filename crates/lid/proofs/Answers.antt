@@ -27,11 +27,12 @@ either : (b : Bool) (x y : Left) → (cond {A = Left} b x y) .answer ≡ cond b 
 either true x y = refl
 either false x y = refl
 
-pub by-noise : (pixels : List ℕ) (w h : ℕ) (ints : List ℤ) (floats : List Float) → w * h ≤ mostPixels → 3 * mostPixels ≤ length ints → 2 * mostPixels + 2 ≤ length floats
-    → noiseOf pixels w h ints floats .answer ≡ noiseAnswer pixels w h
+pub by-noise : (pixels : List ℕ) (w h : ℕ) (ints : List ℤ) (floats : List Float) {r : Answer} → r ≡ noiseOf pixels w h ints floats .answer
+    → w * h ≤ mostPixels → 3 * mostPixels ≤ length ints → 2 * mostPixels + 2 ≤ length floats → r ≡ noiseAnswer pixels w h
 unfolding noiseOf noiseAnswer
-by-noise pixels w h ints floats b i f =
-    ap (λ (short : Bool). leftBy (refusalOf (length pixels) w h short) (measured pixels w h) (neededOf w h) ints floats .answer)
+by-noise pixels w h ints floats e b i f =
+    e
+    ∙ ap (λ (short : Bool). leftBy (refusalOf (length pixels) w h short) (measured pixels w h) (neededOf w h) ints floats .answer)
     (enough w h (length ints) (length floats) (neededOf w h) refl (omega (arith, few w h b)) (omega (arith, few w h b)))
     ∙ either (eqb n 0) (record { answer = measured pixels w h; ints = clearedInts (neededOf w h) ints; floats = clearedFloats (neededOf w h) floats })
     (record { answer = refused n; ints = ints; floats = floats })

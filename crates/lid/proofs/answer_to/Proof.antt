@@ -4,6 +4,7 @@ use mathlib.Core.List.{List}
 use Prim.Native.Nat.{ℕ}
 use denote.Ref.{now}
 use Rattle.lid.specs.Input.{Parsed, image, number, says, pixelsOf, parsedOf}
+use Rattle.answer.specs.declared.Answer.{Answer}
 use Rattle.lid.specs.Answer.{answerBy, lidAnswer}
 use Rattle.lid.proofs.Inputs.{image-has}
 use borrow.Author.Needs.{needs}
@@ -15,9 +16,9 @@ use Rattle.lid.proofs.measure_from.Reads as measure-from-reads
 use Rattle.lid.proofs.parse.Reads as parse-reads
 use Rattle.noise.proofs.refuse.Reads as refuse-reads
 
-as-parsed : (input : List ℕ) (p : Parsed) → p ≡ parsedOf input → answerBy (pixelsOf input) p ≡ lidAnswer input
+as-parsed : (input : List ℕ) (p : Parsed) {r : Answer} → r ≡ answerBy (pixelsOf input) p → p ≡ parsedOf input → r ≡ lidAnswer input
 unfolding lidAnswer
-as-parsed input p e = ap (answerBy (pixelsOf input)) e
+as-parsed input p d e = d ∙ ap (answerBy (pixelsOf input)) e
 
 parse-requires : tie.Need-parse-requires
 parse-requires c κs = search needs
@@ -41,13 +42,13 @@ returns : tie.Need-returns
 returns c =
     let k = c .before .before in
     let p = k .before .before in
-    c .measure-from .ensures ∙ as-parsed (now (p .before .before .args .input)) (image (k .parsed .given .0 .0) (k .parsed .given .0 .1 .0)) (ap says (sym (k .parsed .given .1)) ∙ p .parse .ensures)
+    as-parsed (now (p .before .before .args .input)) (image (k .parsed .given .0 .0) (k .parsed .given .0 .1 .0)) (c .measure-from .ensures) (ap says (sym (k .parsed .given .1)) ∙ p .parse .ensures)
 
 returns-2 : tie.Need-returns-2
 returns-2 c =
     let k = c .before .before in
     let p = k .before .before in
-    c .refuse .ensures ∙ as-parsed (now (p .before .before .args .input)) (number (k .parsed2 .given .0 .0)) (ap says (sym (k .parsed2 .given .1)) ∙ p .parse .ensures)
+    as-parsed (now (p .before .before .args .input)) (number (k .parsed2 .given .0 .0)) (c .refuse .ensures) (ap says (sym (k .parsed2 .given .1)) ∙ p .parse .ensures)
 
 pub answer-to-spec : {M : Type 1} → statement M
 answer-to-spec =

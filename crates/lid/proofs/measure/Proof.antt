@@ -1,12 +1,6 @@
 -- The noise call on memory for as many windows as there may be pixels.
-use mathlib.Core.Path.{_∙_}
-use Prim.Native.Nat.{_+_, _*_}
 use native.Mathlib.Omega.{arith}
-use lib.ListN.{replicate}
-use lib.IntN.{pos}
-use lib.Ieee.{binary32, ofBits}
 use denote.Ref.{now}
-use Rattle.lid.specs.Input.{mostPixels}
 use Rattle.lid.proofs.Answers.{by-noise}
 use borrow.Author.Needs.{needs}
 use Rattle.lid.proofs.measure.Statement.{statement}
@@ -28,7 +22,7 @@ returns : tie.Need-returns
 returns c =
     let s = c .before .before .before .before .before .before in
     let e = c .before .before .estimate-noise-sigma-u8 in
-    e .ensures .0 ∙ by-noise (now (s .args .pixels)) (s .args .w) (s .args .h) (replicate (3 * mostPixels) (pos 0)) (replicate (2 * mostPixels + 2) (ofBits binary32 0)) (s .pre) (omega arith) (omega arith)
+    by-noise (now (s .args .pixels)) (s .args .w) (s .args .h) _ _ (e .ensures .0) (s .pre) (omega arith) (omega arith)
 
 pub measure-spec : {M : Type 1} → statement M
 measure-spec =

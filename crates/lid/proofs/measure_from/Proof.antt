@@ -6,6 +6,7 @@ use native.Mathlib.Omega.{arith}
 use lib.ListN.{length, take, drop, length-drop}
 use lib.Seq.{take-all}
 use denote.Ref.{now}
+use Rattle.answer.specs.declared.Answer.{Answer}
 use Rattle.lid.specs.Answer.{noiseAnswer}
 use borrow.Author.Needs.{needs}
 use Rattle.lid.proofs.measure_from.Statement.{statement}
@@ -14,8 +15,8 @@ use Rattle.lid.proofs.measure_from.Reads as reads
 use Rattle.lid.proofs.measure_from.Lts as lts
 use Rattle.lid.proofs.measure.Reads as measure-reads
 
-rest : (l : List ℕ) (at : ℕ) → take (length l - at) (drop at l) ≡ drop at l
-rest l at = take-all (length l - at) (drop at l) (omega (arith, length-drop at l))
+rest : (l : List ℕ) (at w h : ℕ) {r : Answer} → r ≡ noiseAnswer (take (length l - at) (drop at l)) w h → r ≡ noiseAnswer (drop at l) w h
+rest l at w h e = e ∙ ap (λ (m : List ℕ). noiseAnswer m w h) (take-all (length l - at) (drop at l) (omega (arith, length-drop at l)))
 
 sub-measure : tie.Need-sub-measure
 sub-measure c = search needs
@@ -31,8 +32,8 @@ measure-requires c κs = search needs
 
 returns : tie.Need-returns
 returns c =
-    let s = c .before .before .before in
-    c .measure .ensures ∙ ap (λ (l : List ℕ). noiseAnswer l (s .args .w) (s .args .h)) (rest (now (s .args .input)) (s .args .at))
+    let s = c .before .before .before .args in
+    rest (now (s .input)) (s .at) (s .w) (s .h) (c .measure .ensures)
 
 pub measure-from-spec : {M : Type 1} → statement M
 measure-from-spec =
