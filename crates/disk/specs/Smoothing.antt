@@ -12,7 +12,8 @@ binomial a b c d e =
 
 -- of the five values from place k of a list on, each a stride after the one before
 abbrev pub along : List Float → ℕ → ℕ → Float
-along l k stride = binomial (getD l k nan) (getD l (k + stride) nan) (getD l (k + 2 * stride) nan) (getD l (k + 3 * stride) nan) (getD l (k + 4 * stride) nan)
+along l k stride =
+    binomial (getD l k nan) (getD l (k + stride) nan) (getD l (k + 2 * stride) nan) (getD l (k + 3 * stride) nan) (getD l (k + 4 * stride) nan)
 
 -- row y of `down` is made of rows y to y + 4, column x of `across` of columns x to x + 4
 abbrev pub down : (ℕ → ℕ → Float) → ℕ → ℕ → Float

@@ -69,7 +69,8 @@ module _ (gx gy : List Float) where
       start l e = subst (λ (p : Three). Added gx gy 4 l none 0 p) (sym e) (added-start 4 l none)
 
   pub fours-more : {k i0 i1 i2 i3 : ℕ} {p0 p1 p2 p3 r0 r1 r2 r3 : Three} → FourSums gx gy k p0 p1 p2 p3
-      → Added gx gy 1 i0 p0 1 r0 → i0 ≡ k * 4 + 0 → Added gx gy 1 i1 p1 1 r1 → i1 ≡ k * 4 + 1 → Added gx gy 1 i2 p2 1 r2 → i2 ≡ k * 4 + 2 → Added gx gy 1 i3 p3 1 r3 → i3 ≡ k * 4 + 3
+      → Added gx gy 1 i0 p0 1 r0 → i0 ≡ k * 4 + 0 → Added gx gy 1 i1 p1 1 r1 → i1 ≡ k * 4 + 1
+      → Added gx gy 1 i2 p2 1 r2 → i2 ≡ k * 4 + 2 → Added gx gy 1 i3 p3 1 r3 → i3 ≡ k * 4 + 3
       → FourSums gx gy (k + 1) r0 r1 r2 r3
   fours-more {k} {i0} {i1} {i2} {i3} f e0 q0 e1 q1 e2 q2 e3 q3 =
       record {

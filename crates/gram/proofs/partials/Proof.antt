@@ -65,8 +65,11 @@ loop-less c = omega arith
 
 loop-again : tie.Need-loop-again Inv-loop μ-loop
 loop-again c =
-    let t = c .before .before .before in
-    (omega arith, fours-more _ _ (t .before .before .loop .inv .1) (t .plus .ensures) (omega arith) (c .before .before .plus2 .ensures) (omega arith) (c .before .plus3 .ensures) (omega arith) (c .plus4 .ensures) (omega arith))
+    let t = c .before .before .before in (
+      omega arith,
+      fours-more _ _ (t .before .before .loop .inv .1) (t .plus .ensures) (omega arith) (c .before .before .plus2 .ensures) (omega arith)
+          (c .before .plus3 .ensures) (omega arith) (c .plus4 .ensures) (omega arith),
+    )
 
 returns : tie.Need-returns Inv-loop μ-loop
 returns c = fours-end _ _ (c .before .loop .inv .1) (c .before .loop .inv .0) (c .loop-test .left)
