@@ -1,23 +1,46 @@
--- `measure::measure_row` meets its contract: each column is a row that is written from `to` on.
-use mathlib.Core.Path.{_≡_, refl, sym, ap, _∙_, subst}
+-- `measure::measure_row` meets its contract: eight windows more each turn, then the rest.
+use mathlib.Core.Path.{_≡_, sym, ap, _∙_, subst}
 use mathlib.Core.List.{List}
 use Prim.Native.Nat.{ℕ, _+_, _-_, _*_, _≤_, _<_}
 use native.Mathlib.Omega.{arith}
-use lib.ListN.{length, drop}
+use lib.ListN.{length}
 use lib.IntN.{ℤ}
 use denote.Ref.{now}
-use Rattle.laws.proofs.Fill.{Row, row-start, row-put, row-end}
-use Rattle.measure.specs.Figures.{figureOf}
-use Rattle.measure.specs.Columns.{columnCount, field, column}
-use Rattle.measure.proofs.Columns.{column-long}
+use Rattle.measure.specs.Figures.{figureAt, figureOf}
+use Rattle.measure.specs.Columns.{columnCount, Filled, RowFits}
+use Rattle.measure.proofs.Filling.{filled-none, filled-more}
 use Rattle.measure.proofs.measure_row.Statement.{statement}
 use Rattle.measure.proofs.measure_row.Tie as tie
 
+-- k windows are measured
 record Inv (img : List ℕ) (w y x s n : ℕ) (l₀ : List ℤ) (t to : ℕ) (l : List ℤ) (k : ℕ) : Type 0 where
   low : k ≤ n
-  each : (c : ℕ) → c < columnCount → Row (λ i. field c (figureOf img w y x s i)) (column t c l₀) to n k (column t c l)
-  beyond : drop (columnCount * t) l ≡ drop (columnCount * t) l₀
-  long : length l ≡ length l₀
+  filled : Filled t to k (figureOf img w y x s) l₀ l
+
+module _ {img : List ℕ} {w y x s n : ℕ} {l₀ : List ℤ} {t to : ℕ} {l : List ℤ} {k : ℕ}
+    (f : RowFits img w y x s n t to l₀) (i : Inv img w y x s n l₀ t to l k) where
+  -- b windows more fit where they are left
+  more-fits : (b : ℕ) → k + b ≤ n → RowFits img w y (x + k * s) s b t (to + k) l
+  more-fits b h = record {
+    inside = λ j g. subst (λ (m : ℕ). y * w + m + 3 * w + 4 ≤ length img) (over j) (f .inside (k + j) (omega arith));
+    room = omega (arith, f .room);
+    columns = omega (arith, f .columns, i .filled .long);
+  }
+    where
+      over : (j : ℕ) → x + (k + j) * s ≡ x + k * s + j * s
+      over j = omega arith
+
+  more : {l₁ : List ℤ} (b : ℕ) → k + b ≤ n → Filled t (to + k) b (figureOf img w y (x + k * s) s) l l₁ → Inv img w y x s n l₀ t to l₁ (k + b)
+  more b h e = record { low = h; filled = filled-more (omega (arith, f .room)) (f .columns) (λ j g. ap (λ (m : ℕ). figureAt img w (record { x = m; y = y })) (over j)) (i .filled) e }
+    where
+      over : (j : ℕ) → x + k * s + j * s ≡ x + (k + j) * s
+      over j = omega arith
+
+  all : n ≤ k → Filled t to n (figureOf img w y x s) l₀ l
+  all h = subst (λ (m : ℕ). Filled t to m (figureOf img w y x s) l₀ l) (same k n (i .low) h) (i .filled)
+    where
+      same : (a b : ℕ) → a ≤ b → b ≤ a → a ≡ b
+      same a b h g = omega arith
 
 abbrev Inv-loop : tie.InvT-loop
 Inv-loop img w y x s n ints₀ t to k₀ ints k = Inv img w y x s n ints₀ t to ints k
@@ -26,67 +49,81 @@ abbrev μ-loop : tie.MeasureT-loop
 μ-loop img w y x s n ints₀ t to k₀ ints k = n - k
 
 loop-holds : tie.Need-loop-holds Inv-loop μ-loop
-loop-holds c = record { low = omega arith; each = λ i h. row-start; beyond = refl; long = refl }
+loop-holds c =
+    let a = c .before .args in
+    record { low = omega arith; filled = filled-none (a .t) (a .to) (figureOf (now (a .img)) (a .w) (a .y) (a .x) (a .s)) (now (a .ints)) }
 
--- window k lies inside the image
-inside : (c : tie.In-loop Inv-loop μ-loop)
-    → c .before .before .before .args .y * c .before .before .before .args .w + (c .before .before .before .args .x + c .before .loop .k * c .before .before .before .args .s)
-    + 3 * c .before .before .before .args .w + 4 ≤ length (now (c .before .before .before .args .img))
-inside c = c .before .before .before .pre .inside (c .before .loop .k) (c .loop-test .taken)
+sub-loop : tie.Need-sub-loop Inv-loop μ-loop
+sub-loop c = c .loop .inv .low
 
-mul-window : tie.Need-mul-window Inv-loop μ-loop
-mul-window c = omega (arith, inside c)
+-- window k lies inside the image, if there is one
+inside : (c : tie.At-loop Inv-loop μ-loop) → c .loop .k < c .before .before .args .n
+    → c .before .before .args .y * c .before .before .args .w + (c .before .before .args .x + c .loop .k * c .before .before .args .s)
+    + 3 * c .before .before .args .w + 4 ≤ length (now (c .before .before .args .img))
+inside c h = c .before .before .pre .inside (c .loop .k) h
 
-mul-window-2 : tie.Need-mul-window-2 Inv-loop μ-loop
-mul-window-2 c = omega (arith, inside c)
+mul-measure-eight : tie.Need-mul-measure-eight Inv-loop μ-loop
+mul-measure-eight c = omega (arith, inside (c .before) (omega (arith, c .loop-test .taken)))
 
-add-window : tie.Need-add-window Inv-loop μ-loop
-add-window c = omega (arith, inside c)
+add-measure-eight : tie.Need-add-measure-eight Inv-loop μ-loop
+add-measure-eight c = omega (arith, inside (c .before) (omega (arith, c .loop-test .taken)))
 
-add-window-2 : tie.Need-add-window-2 Inv-loop μ-loop
-add-window-2 c = omega (arith, inside c)
+add-measure-eight-2 : tie.Need-add-measure-eight-2 Inv-loop μ-loop
+add-measure-eight-2 c = omega (arith, c .before .before .before .before .pre .room, c .before .loop-test .taken)
 
-window-requires : tie.Need-window-requires Inv-loop μ-loop
-window-requires c κs = inside c
-
-add-put : tie.Need-add-put Inv-loop μ-loop
-add-put c = omega (arith, c .before .before .before .before .before .pre .room, c .before .before .loop-test .taken)
-
-put-requires : tie.Need-put-requires Inv-loop μ-loop
-put-requires c κs =
-    let p = c .before .before .before .before .before .pre in
-    (omega (arith, p .room, c .before .before .loop-test .taken), omega (arith, p .columns, c .before .before .before .loop .inv .long))
+measure-eight-requires : tie.Need-measure-eight-requires Inv-loop μ-loop
+measure-eight-requires c κs =
+    let l = c .before .before in
+    more-fits (l .before .before .pre) (l .loop .inv) 8 (omega (arith, c .before .loop-test .taken))
 
 add-k : tie.Need-add-k Inv-loop μ-loop
-add-k c = omega (arith, c .before .before .before .before .loop-test .taken)
+add-k c = omega arith
 
 loop-less : tie.Need-loop-less Inv-loop μ-loop
-loop-less c = omega (arith, c .before .before .before .before .loop-test .taken)
-
-room : (s : tie.Start Inv-loop μ-loop) (c : ℕ) → c < columnCount → s .args .to + s .args .n ≤ length (column (s .args .t) c (now (s .args .ints)))
-room s c h = omega (arith, s .pre .room, column-long (s .args .t) c (now (s .args .ints)) h (s .pre .columns))
+loop-less c = omega arith
 
 loop-again : tie.Need-loop-again Inv-loop μ-loop
 loop-again c =
-    let s = c .before .before .before .before .before .before .before in
-    let i = c .before .before .before .before .before .loop .inv in
-    let k = c .before .before .before .before .loop-test .taken in
-    let e = c .before .put .ensures in
-    record {
-      low = omega (arith, k);
-      each = λ j h. subst (λ (l : List ℤ). Row (λ i. field j (figureOf (now (s .args .img)) (s .args .w) (s .args .y) (s .args .x) (s .args .s) i)) (column (s .args .t) j (now (s .args .ints))) (s .args .to) (s .args .n) (c .before .before .before .before .before .loop .k + 1) l)
-          (sym (e .each j h)) (row-put (i .each j h) k (room s j h) (ap (field j) (c .before .before .before .window .ensures)));
-      beyond = e .beyond ∙ i .beyond;
-      long = e .long ∙ i .long;
-    }
+    let l = c .before .before .before .before in
+    more (l .before .before .pre) (l .loop .inv) 8 (omega (arith, c .before .before .before .loop-test .taken)) (c .before .measure-eight .ensures)
+
+mul-measure-each : tie.Need-mul-measure-each Inv-loop μ-loop
+mul-measure-each c = omega (arith, inside (c .before .before) (c .if1 .taken))
+
+add-measure-each : tie.Need-add-measure-each Inv-loop μ-loop
+add-measure-each c = omega (arith, inside (c .before .before) (c .if1 .taken))
+
+sub-measure-each : tie.Need-sub-measure-each Inv-loop μ-loop
+sub-measure-each c = c .before .before .loop .inv .low
+
+add-measure-each-2 : tie.Need-add-measure-each-2 Inv-loop μ-loop
+add-measure-each-2 c = omega (arith, c .before .before .before .before .before .pre .room, c .before .before .before .loop .inv .low)
+
+measure-each-requires : tie.Need-measure-each-requires Inv-loop μ-loop
+measure-each-requires c κs =
+    let l = c .before .before .before in
+    more-fits (l .before .before .pre) (l .loop .inv) (l .before .before .args .n - l .loop .k) (omega (arith, l .loop .inv .low))
+
+-- with the rest all are measured
+rest : (c : tie.After-ints2 Inv-loop μ-loop) → Filled (c .before .before .before .before .before .before .before .args .t) (c .before .before .before .before .before .before .before .args .to) (c .before .before .before .before .before .before .before .args .n) (figureOf (now (c .before .before .before .before .before .before .before .args .img)) (c .before .before .before .before .before .before .before .args .w) (c .before .before .before .before .before .before .before .args .y) (c .before .before .before .before .before .before .before .args .x) (c .before .before .before .before .before .before .before .args .s))
+    (now (c .before .before .before .before .before .before .before .args .ints)) (c .before .measure-each .last .1 .1 .1 .1 .1 .1 .0)
+rest c =
+    let l = c .before .before .before .before .before in
+    let p = l .before .before .pre in
+    let n = l .before .before .args .n - l .loop .k in
+    all p (more p (l .loop .inv) n (omega (arith, l .loop .inv .low)) (c .before .measure-each .ensures)) (omega (arith, l .loop .inv .low))
 
 same-length : tie.Need-same-length Inv-loop μ-loop
-same-length c = c .before .loop .inv .long
+same-length c = rest c .long
 
 returns : tie.Need-returns Inv-loop μ-loop
-returns c =
-    let i = c .before .loop .inv in
-    record { each = λ j h. row-end (i .each j h) (c .loop-test .left); beyond = i .beyond; long = i .long }
+returns c = rest c
+
+same-length-2 : tie.Need-same-length-2 Inv-loop μ-loop
+same-length-2 c = c .before .before .loop .inv .filled .long
+
+returns-2 : tie.Need-returns-2 Inv-loop μ-loop
+returns-2 c = all (c .before .before .before .before .pre) (c .before .before .loop .inv) (c .if1 .left)
 
 pub measure-row-spec : {M : Type 1} → statement M
 measure-row-spec =
@@ -95,15 +132,20 @@ measure-row-spec =
     Inv-loop
     μ-loop
     loop-holds
-    mul-window
-    mul-window-2
-    add-window
-    add-window-2
-    window-requires
-    add-put
-    put-requires
+    sub-loop
+    mul-measure-eight
+    add-measure-eight
+    add-measure-eight-2
+    measure-eight-requires
     add-k
     loop-less
     loop-again
+    mul-measure-each
+    add-measure-each
+    sub-measure-each
+    add-measure-each-2
+    measure-each-requires
     same-length
-    returns)
+    returns
+    same-length-2
+    returns-2)
