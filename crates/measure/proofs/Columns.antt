@@ -5,12 +5,12 @@ use Prim.Native.Nat.{ℕ, zero, suc, _+_, _-_, _*_, _≤_, _<_}
 use native.Mathlib.Nat.{mul-le-mul-right}
 use native.Mathlib.Omega.{arith}
 use lib.Dec.{lit<}
-use lib.ListN.{length, getD, take, drop, set, length-map, List·getD-append, List·getD-map, length-set, length-take, length-drop, take-append-drop}
-use lib.Seq.{take-set-lt, take-set-le, drop-set-lt, drop-set-add, drop-drop}
+use lib.ListN.{length, getD, take, drop, set, length-append, length-map, List·getD-append, List·getD-map, length-set, length-take, length-drop, take-append-drop}
+use lib.Seq.{getD-append-add, take-set-lt, take-set-le, drop-set-lt, drop-set-add, drop-drop}
 use lib.IntN.{ℤ, pos}
 use Rattle.laws.specs.Lists.{joined}
 use Rattle.laws.proofs.Fill.{from-get}
-use Rattle.measure.proofs.Rows.{from-same, joined-at, joined-long}
+use Rattle.measure.proofs.Rows.{from-same}
 use Rattle.window.specs.declared.WindowStats.{WindowStats}
 use Rattle.measure.specs.Columns.{columnCount, field, columns, columnsIn, column, figureIn, figuresIn, Stored}
 
@@ -117,6 +117,38 @@ whole t l = from-column t 0 columnCount l ∙ ap (λ (n : ℕ). drop n l) (none 
 
 -- ---- figures laid in columns are read back
 
+-- element k of row c, the rows being t long
+joined-at : (rows : ℕ → List ℤ) (t : ℕ) → ((i : ℕ) → length (rows i) ≡ t) → (j n c k : ℕ) → c < n → k < t → getD (joined rows j n) (c * t + k) (pos 0) ≡ getD (rows (j + c)) k (pos 0)
+joined-at rows t e j zero c k h g = absurd (none c h)
+  where
+    none : (c : ℕ) → c < 0 → ⊥
+    none c h = omega arith
+joined-at rows t e j (suc n) zero k h g =
+    ap (λ (i : ℕ). getD (rows j ++ joined rows (suc j) n) i (pos 0)) (first t k)
+    ∙ List·getD-append (rows j) (joined rows (suc j) n) (pos 0) k (omega (arith, e j))
+    ∙ ap (λ (i : ℕ). getD (rows i) k (pos 0)) (same j)
+  where
+    first : (t k : ℕ) → 0 * t + k ≡ k
+    first t k = omega arith
+
+    same : (j : ℕ) → j ≡ j + 0
+    same j = omega arith
+joined-at rows t e j (suc n) (suc c) k h g =
+    ap (λ (i : ℕ). getD (rows j ++ joined rows (suc j) n) i (pos 0)) (past (length (rows j)) (e j))
+    ∙ getD-append-add (rows j) (joined rows (suc j) n) (c * t + k) (pos 0)
+    ∙ joined-at rows t e (suc j) n c k (omega arith) g
+    ∙ ap (λ (i : ℕ). getD (rows i) k (pos 0)) (over j c)
+  where
+    past : (m : ℕ) → m ≡ t → suc c * t + k ≡ m + (c * t + k)
+    past m p = omega arith
+
+    over : (j c : ℕ) → suc j + c ≡ j + suc c
+    over j c = omega arith
+
+joined-long : (rows : ℕ → List ℤ) (t : ℕ) → ((i : ℕ) → length (rows i) ≡ t) → (j n : ℕ) → length (joined rows j n) ≡ n * t
+joined-long rows t e j zero = omega arith
+joined-long rows t e j (suc n) = omega (arith, length-append (rows j) (joined rows (suc j) n), e j, joined-long rows t e (suc j) n)
+
 pub columns-count : (fs : List WindowStats) → length (columns fs) ≡ columnCount * length fs
 columns-count fs = joined-long (λ c. map (field c) fs) (length fs) (λ c. length-map fs (field c)) 0 columnCount
 
@@ -137,7 +169,7 @@ module _ (fs : List WindowStats) (old : List ℤ) where
       let rows : ℕ → List ℤ = λ c. map (field c) fs in
       let long : (i : ℕ) → length (rows i) ≡ t = λ i. length-map fs (field i) in
       List·getD-append (columns fs) (drop (columnCount * t) old) (pos 0) (c * t + k) (omega (arith, joined-long rows t long 0 columnCount, mul-le-mul-right t h))
-      ∙ joined-at rows t long (pos 0) 0 columnCount c k h g
+      ∙ joined-at rows t long 0 columnCount c k h g
       ∙ ap (λ (i : ℕ). getD (rows i) k (pos 0)) (zeroth c)
       ∙ ap (λ (d : ℤ). getD (rows c) k d) (sym z)
       ∙ List·getD-map (field c) fs k none

@@ -1,53 +1,44 @@
--- Windows laid side by side have the pixels that they have in the image, so the same figures.
-use mathlib.Core.Path.{_≡_, refl, ap, _∙_}
+-- The windows whose rows are gathered have the figures that they have in the image.
+use mathlib.Core.Path.{_≡_, ap, _∙_}
 use mathlib.Core.List.{List}
 use Prim.Native.Nat.{ℕ, _+_, _*_, _<_}
 use native.Mathlib.Omega.{arith}
-use lib.ListN.{length, getD}
-use lib.IntN.{pos}
-use Rattle.window.specs.Window.{pixelsAt}
-use Rattle.window.proofs.Places.{below4}
-use Rattle.window.proofs.Same.{stats-alike}
+use lib.ListN.{getD, drop, replicate, List·getD-append}
+use mir.Syntax.{w8}
+use mir.Val.{Fits}
+use Rattle.laws.specs.Lists.{from}
+use Rattle.laws.proofs.Fill.{length-from}
+use Rattle.window.specs.Window.{statsOf, pixelsAt}
+use Rattle.window_stats.specs.Passes.{wordAt}
+use Rattle.window_stats.proofs.Words.{words-stats, packed-same}
 use Rattle.measure.specs.Figures.{figureOf}
-use Rattle.measure.specs.Gathered.{fourAt, windowAt, eightAt}
-use Rattle.measure.proofs.Rows.{joined-at, joined-long}
+use Rattle.measure.specs.Gathered.{gathered, figureIn}
+use Rattle.measure.proofs.Rows.{from-at}
 
-pub window-long : (img : List ℕ) (w at : ℕ) → length (windowAt img w at) ≡ 16
-unfolding windowAt
-window-long img w at = refl
-
-pub eight-long : (img : List ℕ) (w at s : ℕ) → length (eightAt img w at s) ≡ 128
-unfolding eightAt
-eight-long img w at s = joined-long (λ l. windowAt img w (at + l * s)) 16 (λ l. window-long img w (at + l * s)) 0 8
-
-module _ (img : List ℕ) (w : ℕ) where
-  window-at : (at y x : ℕ) → y < 4 → x < 4 → getD (windowAt img w at) (y * 4 + x) 0 ≡ getD img (at + y * w + x) 0
-  unfolding windowAt
-  window-at at y x h g =
-      joined-at (λ y. fourAt img (at + y * w)) 4 (λ y. refl) 0 0 4 y x h g ∙ ap (λ (n : ℕ). getD (fourAt img (at + n * w)) x 0) (same y)
-      ∙ below4 (λ x. getD (fourAt img (at + y * w)) x 0 ≡ getD img (at + y * w + x) 0) refl refl refl refl x g
+module _ (img : List ℕ) where
+  word-at : (at s n k : ℕ) → k < n → getD (gathered img at s n) k 0 ≡ wordAt img (at + k * s)
+  unfolding gathered
+  word-at at s n k h =
+      let word : ℕ → ℕ = λ k. wordAt img (at + k * s) in
+      List·getD-append (from word 0 n) (drop n (replicate 32 0)) 0 k (omega (arith, length-from word 0 n)) ∙ from-at word 0 0 n k h ∙ ap word (same k)
     where
       same : (a : ℕ) → 0 + a ≡ a
       same a = omega arith
 
-  module _ (at s : ℕ) where
-    eight-at : (l y x : ℕ) → l < 8 → y < 4 → x < 4 → getD (eightAt img w at s) (l * 16 + (y * 4 + x)) 0 ≡ getD img (at + l * s + y * w + x) 0
-    unfolding eightAt
-    eight-at l y x k h g =
-        joined-at (λ l. windowAt img w (at + l * s)) 16 (λ l. window-long img w (at + l * s)) 0 0 8 l (y * 4 + x) k (omega arith)
-        ∙ ap (λ (n : ℕ). getD (windowAt img w (at + n * s)) (y * 4 + x) 0) (same l) ∙ window-at (at + l * s) y x h g
-      where
-        same : (a : ℕ) → 0 + a ≡ a
-        same a = omega arith
-
-  pub gathered : (y x s l : ℕ) → l < 8 → figureOf (eightAt img w (y * w + x) s) 4 0 0 16 l ≡ figureOf img w y x s l
-  gathered y x s l k =
-      stats-alike (pixelsAt (eightAt img w (y * w + x) s) 4 (0 * 4 + (0 + l * 16))) (pixelsAt img w (y * w + (x + l * s)))
-      (λ u v g h. ap pos (
-      ap (λ (n : ℕ). getD (eightAt img w (y * w + x) s) n 0) (here u v) ∙ eight-at (y * w + x) s l v u k h g ∙ ap (λ (n : ℕ). getD img (n + v * w + u) 0) (there (y * w))))
+  -- in the row that lies b below
+  word-below : (at b s n k : ℕ) → k < n → getD (gathered img (at + b) s n) k 0 ≡ wordAt img (at + k * s + b)
+  word-below at b s n k h = word-at (at + b) s n k h ∙ ap (wordAt img) (over at b (k * s))
     where
-      here : (u v : ℕ) → 0 * 4 + (0 + l * 16) + v * 4 + u ≡ l * 16 + (v * 4 + u)
-      here u v = omega arith
+      over : (x y z : ℕ) → x + y + z ≡ x + z + y
+      over x y z = omega arith
 
-      there : (a : ℕ) → a + x + l * s ≡ a + (x + l * s)
-      there a = omega arith
+  pub figures : ((i : ℕ) → Fits w8 (getD img i 0)) → (w y x s n k : ℕ) → k < n
+      → figureIn (gathered img (y * w + x) s n) (gathered img (y * w + x + w) s n) (gathered img (y * w + x + 2 * w) s n) (gathered img (y * w + x + 3 * w) s n) k
+      ≡ figureOf img w y x s k
+  figures g w y x s n k h =
+      let at = y * w + x in
+      packed-same (word-at at s n k h) (word-below at w s n k h) (word-below at (2 * w) s n k h) (word-below at (3 * w) s n k h)
+      ∙ words-stats img g w (at + k * s) ∙ ap (λ (i : ℕ). statsOf (pixelsAt img w i)) (over (y * w) x (k * s))
+    where
+      over : (a b c : ℕ) → a + b + c ≡ a + (b + c)
+      over a b c = omega arith

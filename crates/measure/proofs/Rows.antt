@@ -1,10 +1,9 @@
 -- Lists of rows: element by element, and as one list of places mapped. Assumes nothing.
 use mathlib.Core.Path.{_≡_, refl, sym, ap, _∙_}
 use mathlib.Core.List.{List, [], _∷_, _++_, map}
-use Prim.Native.Nat.{ℕ, zero, suc, _+_, _*_, _≤_, _<_}
+use Prim.Native.Nat.{ℕ, zero, suc, _+_, _≤_, _<_}
 use native.Mathlib.Omega.{arith}
-use lib.ListN.{length, getD, length-append, List·getD-append}
-use lib.Seq.{getD-append-add}
+use lib.ListN.{getD}
 use Rattle.laws.specs.Lists.{from, joined}
 
 module _ {A : Type 0} where
@@ -23,6 +22,21 @@ module _ {A : Type 0} where
 
   pub from-same : (f g : ℕ → A) (k n : ℕ) → ((i : ℕ) → k ≤ i → i < k + n → f i ≡ g i) → from f k n ≡ from g k n
   from-same f g k n e = from-alike f g k k n (λ i h. e (k + i) (omega arith) (omega arith))
+
+  -- element i
+  pub from-at : (f : ℕ → A) (d : A) (k n i : ℕ) → i < n → getD (from f k n) i d ≡ f (k + i)
+  from-at f d k zero i h = absurd (none i h)
+    where
+      none : (i : ℕ) → i < zero → ⊥
+      none i h = omega arith
+  from-at f d k (suc n) zero h = ap f (first k)
+    where
+      first : (a : ℕ) → a ≡ a + zero
+      first a = omega arith
+  from-at f d k (suc n) (suc i) h = from-at f d (suc k) n i (omega arith) ∙ ap f (over k i)
+    where
+      over : (a b : ℕ) → suc a + b ≡ a + suc b
+      over a b = omega arith
 
   -- the first a of them, then b more
   pub from-split : (f : ℕ → A) (k a b : ℕ) → from f k (a + b) ≡ from f k a ++ from f (k + a) b
@@ -48,39 +62,6 @@ module _ {A : Type 0} where
   joined-same f g k (suc n) e =
       ap (λ (x : List A). x ++ joined f (suc k) n) (e k (omega arith) (omega arith))
       ∙ ap (λ (l : List A). g k ++ l) (joined-same f g (suc k) n (λ i p q. e i (omega arith) (omega arith)))
-
-module _ {A : Type 0} (rows : ℕ → List A) (t : ℕ) (e : (i : ℕ) → length (rows i) ≡ t) where
-  -- element k of row c, the rows being t long
-  pub joined-at : (d : A) (j n c k : ℕ) → c < n → k < t → getD (joined rows j n) (c * t + k) d ≡ getD (rows (j + c)) k d
-  joined-at d j zero c k h g = absurd (none c h)
-    where
-      none : (c : ℕ) → c < 0 → ⊥
-      none c h = omega arith
-  joined-at d j (suc n) zero k h g =
-      ap (λ (i : ℕ). getD (rows j ++ joined rows (suc j) n) i d) (first t k)
-      ∙ List·getD-append (rows j) (joined rows (suc j) n) d k (omega (arith, e j))
-      ∙ ap (λ (i : ℕ). getD (rows i) k d) (same j)
-    where
-      first : (t k : ℕ) → 0 * t + k ≡ k
-      first t k = omega arith
-
-      same : (j : ℕ) → j ≡ j + 0
-      same j = omega arith
-  joined-at d j (suc n) (suc c) k h g =
-      ap (λ (i : ℕ). getD (rows j ++ joined rows (suc j) n) i d) (past (length (rows j)) (e j))
-      ∙ getD-append-add (rows j) (joined rows (suc j) n) (c * t + k) d
-      ∙ joined-at d (suc j) n c k (omega arith) g
-      ∙ ap (λ (i : ℕ). getD (rows i) k d) (over j c)
-    where
-      past : (m : ℕ) → m ≡ t → suc c * t + k ≡ m + (c * t + k)
-      past m p = omega arith
-
-      over : (j c : ℕ) → suc j + c ≡ j + suc c
-      over j c = omega arith
-
-  pub joined-long : (j n : ℕ) → length (joined rows j n) ≡ n * t
-  joined-long j zero = omega arith
-  joined-long j (suc n) = omega (arith, length-append (rows j) (joined rows (suc j) n), e j, joined-long (suc j) n)
 
 module _ {A B : Type 0} (g : A → B) where
   pub map-append : (l m : List A) → map g (l ++ m) ≡ map g l ++ map g m

@@ -1,21 +1,27 @@
--- Eight windows of a grid row laid side by side, sixteen pixels each: what stands at (x, y) of window l is at 16 × l + 4 × y + x.
+-- The rows of several windows side by side, four pixels each.
 use mathlib.Core.List.{List, _++_}
-use Prim.Native.Nat.{ℕ, _+_, _*_}
-use lib.ListN.{getD, take, drop}
-use Rattle.laws.specs.Lists.{from, joined}
+use Prim.Native.Nat.{ℕ, _+_, _*_, _≤_}
+use lib.ListN.{length, getD, drop, replicate}
+use lib.IntN.{ℤ}
+use Rattle.laws.specs.Lists.{from}
+use Rattle.window.specs.Window.{ofRows, statsOf}
+use Rattle.window.specs.declared.WindowStats.{WindowStats}
+use Rattle.window_stats.specs.Passes.{wordAt, rowsIn}
+use Rattle.measure.specs.Columns.{columnCount}
 
--- four pixels of an image, from the place `at` on
-abbrev pub fourAt : List ℕ → ℕ → List ℕ
-fourAt img at = from (λ x. getD img (at + x) 0) 0 4
+-- the four pixels each from `at`, `at` + s, .. on, n of them, then zeros up to 32
+unfoldable pub gathered : List ℕ → ℕ → ℕ → ℕ → List ℕ
+gathered img at s n = from (λ k. wordAt img (at + k * s)) 0 n ++ drop n (replicate 32 0)
 
--- the rows of the window at `at`, which are w apart in the image
-unfoldable pub windowAt : List ℕ → ℕ → ℕ → List ℕ
-windowAt img w at = joined (λ y. fourAt img (at + y * w)) 0 4
+-- the figures of window k, its rows being number k of each list
+abbrev pub figureIn : List ℕ → List ℕ → List ℕ → List ℕ → ℕ → WindowStats
+figureIn a b c d k = statsOf (ofRows (rowsIn (getD a k 0) (getD b k 0) (getD c k 0) (getD d k 0)))
 
--- the windows at `at`, `at` + s, .. , eight of them
-unfoldable pub eightAt : List ℕ → ℕ → ℕ → ℕ → List ℕ
-eightAt img w at s = joined (λ l. windowAt img w (at + l * s)) 0 8
-
--- a list with n new elements from place `to` on
-abbrev pub laid : List ℕ → ℕ → ℕ → List ℕ → List ℕ
-laid old to n new = (take to old ++ new) ++ drop (to + n) old
+-- n windows stand in the lists, and there is room for their figures
+pub record WordsFit (a b c d : List ℕ) (n t to : ℕ) (ints : List ℤ) : Type 0 where
+  pub first : n ≤ length a
+  pub second : n ≤ length b
+  pub third : n ≤ length c
+  pub fourth : n ≤ length d
+  pub room : to + n ≤ t
+  pub columns : columnCount * t ≤ length ints

@@ -1,11 +1,11 @@
 // The windows of a pass measured into the lent i32 slice.
 ghost use mathlib.Core.Path.{_≡_};
-ghost use Prim.Native.Nat.{_+_, _*_, _<_, _≤_};
+ghost use Prim.Native.Nat.{ℕ, _+_, _*_, _<_, _≤_, min};
 ghost use lib.ListN.{length};
 ghost use Rattle.grid.specs.Grid.{totalOf};
 ghost use Rattle.measure.specs.Figures.{figureOf, figuresOf, Measurable};
 ghost use Rattle.measure.specs.Columns.{columnsIn, columnCount, Stored, Filled, RowFits};
-ghost use Rattle.measure.specs.Gathered.{fourAt, windowAt, eightAt, laid};
+ghost use Rattle.measure.specs.Gathered.{gathered, figureIn, WordsFit};
 use window::WindowStats;
 
 // A window's figures at place i of each column, the columns being t long.
@@ -21,8 +21,44 @@ fn put(ints: &mut [i32], t: usize, i: usize, f: WindowStats)
     ints[2 * t + i] = op;
 }
 
-// The n windows of the grid row at y, s apart from x on, into the columns from place `to` on, one after the other.
-fn measure_each(
+// Four pixels each from img[at], img[at + s], .. on, n of them.
+fn gather(img: &[u8], at: usize, s: usize, n: usize) -> [u32; 32]
+    requires { ⌜ (n ≤ 32) × ((k : ℕ) → k < n → at + k * s + 4 ≤ length (now img)) ⌝ }
+    ensures { λ r. ⌜ r ≡ gathered (now (img .entry)) at s n ⌝ }
+{
+    let mut words = [0u32; 32];
+    let mut k = 0;
+    while k < n {
+        words[k] = window_stats::word(img, at + k * s);
+        k += 1;
+    }
+    words
+}
+
+// The n windows whose rows stand in a, b, c and d, into the columns from place `to` on.
+fn measure_words(
+    a: &[u32],
+    b: &[u32],
+    c: &[u32],
+    d: &[u32],
+    n: usize,
+    ints: &mut [i32],
+    t: usize,
+    to: usize,
+)
+    requires { ⌜ WordsFit (now a) (now b) (now c) (now d) n t to (now ints) ⌝ }
+    ensures { λ _. ⌜ Filled t to n (figureIn (now (a .entry)) (now (b .entry)) (now (c .entry)) (now (d .entry))) (now (ints .entry)) (now (ints .exit)) ⌝ }
+{
+    let mut k = 0;
+    while k < n {
+        let f = window_stats::packed(a[k], b[k], c[k], d[k]);
+        put(ints, t, to + k, f);
+        k += 1;
+    }
+}
+
+// At most 32 windows, whose pixels are all asked for before the first of them is measured.
+fn measure_some(
     img: &[u8],
     w: usize,
     y: usize,
@@ -33,77 +69,18 @@ fn measure_each(
     t: usize,
     to: usize,
 )
-    requires { ⌜ RowFits (now img) w y x s n t to (now ints) ⌝ }
+    requires { ⌜ (1 ≤ n) × (n ≤ 32) × RowFits (now img) w y x s n t to (now ints) ⌝ }
     ensures { λ _. ⌜ Filled t to n (figureOf (now (img .entry)) w y x s) (now (ints .entry)) (now (ints .exit)) ⌝ }
 {
-    let mut k = 0;
-    while k < n {
-        let f = window_stats::window(img, w, y * w + (x + k * s));
-        put(ints, t, to + k, f);
-        k += 1;
-    }
+    let at = y * w + x;
+    let a = gather(img, at, s, n);
+    let b = gather(img, at + w, s, n);
+    let c = gather(img, at + 2 * w, s, n);
+    let d = gather(img, at + 3 * w, s, n);
+    measure_words(&a, &b, &c, &d, n, ints, t, to);
 }
 
-// Four pixels from img[at] on, to rows[to] on.
-fn copy_row(img: &[u8], at: usize, rows: &mut [u8], to: usize)
-    requires { ⌜ (at + 4 ≤ length (now img)) × (to + 4 ≤ length (now rows)) ⌝ }
-    ensures { λ _. ⌜ now (rows .exit) ≡ laid (now (rows .entry)) to 4 (fourAt (now (img .entry)) at) ⌝ }
-{
-    let a = img[at];
-    let b = img[at + 1];
-    let c = img[at + 2];
-    let d = img[at + 3];
-    rows[to] = a;
-    rows[to + 1] = b;
-    rows[to + 2] = c;
-    rows[to + 3] = d;
-}
-
-// The rows of the window whose first pixel is img[at], to rows[to] on.
-fn copy_window(img: &[u8], w: usize, at: usize, rows: &mut [u8], to: usize)
-    requires { ⌜ (at + 3 * w + 4 ≤ length (now img)) × (to + 16 ≤ length (now rows)) ⌝ }
-    ensures { λ _. ⌜ now (rows .exit) ≡ laid (now (rows .entry)) to 16 (windowAt (now (img .entry)) w at) ⌝ }
-{
-    let mut y = 0;
-    while y < 4 {
-        copy_row(img, at + y * w, rows, to + y * 4);
-        y += 1;
-    }
-}
-
-// The windows whose first pixels are img[at], img[at + s], .., eight of them.
-fn gather(img: &[u8], w: usize, at: usize, s: usize) -> [u8; 128]
-    requires { ⌜ at + 7 * s + 3 * w + 4 ≤ length (now img) ⌝ }
-    ensures { λ r. ⌜ r ≡ eightAt (now (img .entry)) w at s ⌝ }
-{
-    let mut rows = [0u8; 128];
-    let mut l = 0;
-    while l < 8 {
-        copy_window(img, w, at + l * s, &mut rows, l * 16);
-        l += 1;
-    }
-    rows
-}
-
-// Eight windows, whose pixels are all asked for before the first of them is measured.
-fn measure_eight(
-    img: &[u8],
-    w: usize,
-    y: usize,
-    x: usize,
-    s: usize,
-    ints: &mut [i32],
-    t: usize,
-    to: usize,
-)
-    requires { ⌜ RowFits (now img) w y x s 8 t to (now ints) ⌝ }
-    ensures { λ _. ⌜ Filled t to 8 (figureOf (now (img .entry)) w y x s) (now (ints .entry)) (now (ints .exit)) ⌝ }
-{
-    let rows = gather(img, w, y * w + x, s);
-    measure_each(&rows, 4, 0, 0, 16, 8, ints, t, to);
-}
-
-// The n windows of a grid row: eight at a time, then the rest.
+// The n windows of the grid row at y, s apart from x on, into the columns from place `to` on.
 fn measure_row(
     img: &[u8],
     w: usize,
@@ -119,13 +96,21 @@ fn measure_row(
     ensures { λ _. ⌜ Filled t to n (figureOf (now (img .entry)) w y x s) (now (ints .entry)) (now (ints .exit)) ⌝ }
 {
     let mut k = 0;
-    while n - k >= 8 {
-        measure_eight(img, w, y, x + k * s, s, ints, t, to + k);
-        k += 8;
+    while k < n {
+        let m = some(n - k);
+        measure_some(img, w, y, x + k * s, s, m, ints, t, to + k);
+        k += m;
     }
-    if k < n {
-        measure_each(img, w, y, x + k * s, s, n - k, ints, t, to + k);
+}
+
+// How many of n windows are measured at a time.
+fn some(n: usize) -> usize
+    ensures { λ r. ⌜ r ≡ min n 32 ⌝ }
+{
+    if n < 32 {
+        return n;
     }
+    32
 }
 
 // Every window of the pass, in sampling order, into columns as long as there are windows.

@@ -1,4 +1,4 @@
--- `measure::measure_row` meets its contract: eight windows more each turn, then the rest.
+-- `measure::measure_row` meets its contract: up to 32 windows more each turn.
 use mathlib.Core.Path.{_≡_, sym, ap, _∙_, subst}
 use mathlib.Core.List.{List}
 use Prim.Native.Nat.{ℕ, _+_, _-_, _*_, _≤_, _<_}
@@ -53,77 +53,51 @@ loop-holds c =
     let a = c .before .args in
     record { low = omega arith; filled = filled-none (a .t) (a .to) (figureOf (now (a .img)) (a .w) (a .y) (a .x) (a .s)) (now (a .ints)) }
 
-sub-loop : tie.Need-sub-loop Inv-loop μ-loop
-sub-loop c = c .loop .inv .low
+sub-some : tie.Need-sub-some Inv-loop μ-loop
+sub-some c = c .before .loop .inv .low
 
--- window k lies inside the image, if there is one
-inside : (c : tie.At-loop Inv-loop μ-loop) → c .loop .k < c .before .before .args .n
-    → c .before .before .args .y * c .before .before .args .w + (c .before .before .args .x + c .loop .k * c .before .before .args .s)
-    + 3 * c .before .before .args .w + 4 ≤ length (now (c .before .before .args .img))
-inside c h = c .before .before .pre .inside (c .loop .k) h
+some-requires : tie.Need-some-requires Inv-loop μ-loop
+some-requires c κs = tt
 
-mul-measure-eight : tie.Need-mul-measure-eight Inv-loop μ-loop
-mul-measure-eight c = omega (arith, inside (c .before) (omega (arith, c .loop-test .taken)))
+-- window k lies inside the image
+inside : (c : tie.In-loop Inv-loop μ-loop)
+    → c .before .before .before .args .y * c .before .before .before .args .w + (c .before .before .before .args .x + c .before .loop .k * c .before .before .before .args .s)
+    + 3 * c .before .before .before .args .w + 4 ≤ length (now (c .before .before .before .args .img))
+inside c = c .before .before .before .pre .inside (c .before .loop .k) (c .loop-test .taken)
 
-add-measure-eight : tie.Need-add-measure-eight Inv-loop μ-loop
-add-measure-eight c = omega (arith, inside (c .before) (omega (arith, c .loop-test .taken)))
+mul-measure-some : tie.Need-mul-measure-some Inv-loop μ-loop
+mul-measure-some c = omega (arith, inside (c .before))
 
-add-measure-eight-2 : tie.Need-add-measure-eight-2 Inv-loop μ-loop
-add-measure-eight-2 c = omega (arith, c .before .before .before .before .pre .room, c .before .loop-test .taken)
+add-measure-some : tie.Need-add-measure-some Inv-loop μ-loop
+add-measure-some c = omega (arith, inside (c .before))
 
-measure-eight-requires : tie.Need-measure-eight-requires Inv-loop μ-loop
-measure-eight-requires c κs =
-    let l = c .before .before in
-    more-fits (l .before .before .pre) (l .loop .inv) 8 (omega (arith, c .before .loop-test .taken))
+add-measure-some-2 : tie.Need-add-measure-some-2 Inv-loop μ-loop
+add-measure-some-2 c = omega (arith, c .before .before .before .before .before .pre .room, c .before .before .loop-test .taken)
+
+measure-some-requires : tie.Need-measure-some-requires Inv-loop μ-loop
+measure-some-requires c κs =
+    let l = c .before .before .before in
+    let e = c .before .some .ensures in
+    let h = c .before .before .loop-test .taken in
+    (omega (arith, e, h), omega (arith, e), more-fits (l .before .before .pre) (l .loop .inv) (c .before .some .result) (omega (arith, e, h)))
 
 add-k : tie.Need-add-k Inv-loop μ-loop
-add-k c = omega arith
+add-k c = omega (arith, c .before .before .before .some .ensures, c .before .before .before .before .loop-test .taken)
 
 loop-less : tie.Need-loop-less Inv-loop μ-loop
-loop-less c = omega arith
+loop-less c = omega (arith, c .before .before .before .some .ensures, c .before .before .before .before .loop-test .taken)
 
 loop-again : tie.Need-loop-again Inv-loop μ-loop
 loop-again c =
-    let l = c .before .before .before .before in
-    more (l .before .before .pre) (l .loop .inv) 8 (omega (arith, c .before .before .before .loop-test .taken)) (c .before .measure-eight .ensures)
-
-mul-measure-each : tie.Need-mul-measure-each Inv-loop μ-loop
-mul-measure-each c = omega (arith, inside (c .before .before) (c .if1 .taken))
-
-add-measure-each : tie.Need-add-measure-each Inv-loop μ-loop
-add-measure-each c = omega (arith, inside (c .before .before) (c .if1 .taken))
-
-sub-measure-each : tie.Need-sub-measure-each Inv-loop μ-loop
-sub-measure-each c = c .before .before .loop .inv .low
-
-add-measure-each-2 : tie.Need-add-measure-each-2 Inv-loop μ-loop
-add-measure-each-2 c = omega (arith, c .before .before .before .before .before .pre .room, c .before .before .before .loop .inv .low)
-
-measure-each-requires : tie.Need-measure-each-requires Inv-loop μ-loop
-measure-each-requires c κs =
-    let l = c .before .before .before in
-    more-fits (l .before .before .pre) (l .loop .inv) (l .before .before .args .n - l .loop .k) (omega (arith, l .loop .inv .low))
-
--- with the rest all are measured
-rest : (c : tie.After-ints2 Inv-loop μ-loop) → Filled (c .before .before .before .before .before .before .before .args .t) (c .before .before .before .before .before .before .before .args .to) (c .before .before .before .before .before .before .before .args .n) (figureOf (now (c .before .before .before .before .before .before .before .args .img)) (c .before .before .before .before .before .before .before .args .w) (c .before .before .before .before .before .before .before .args .y) (c .before .before .before .before .before .before .before .args .x) (c .before .before .before .before .before .before .before .args .s))
-    (now (c .before .before .before .before .before .before .before .args .ints)) (c .before .measure-each .last .1 .1 .1 .1 .1 .1 .0)
-rest c =
     let l = c .before .before .before .before .before in
-    let p = l .before .before .pre in
-    let n = l .before .before .args .n - l .loop .k in
-    all p (more p (l .loop .inv) n (omega (arith, l .loop .inv .low)) (c .before .measure-each .ensures)) (omega (arith, l .loop .inv .low))
+    more (l .before .before .pre) (l .loop .inv) (c .before .before .before .some .result)
+    (omega (arith, c .before .before .before .some .ensures, c .before .before .before .before .loop-test .taken)) (c .before .measure-some .ensures)
 
 same-length : tie.Need-same-length Inv-loop μ-loop
-same-length c = rest c .long
+same-length c = c .before .loop .inv .filled .long
 
 returns : tie.Need-returns Inv-loop μ-loop
-returns c = rest c
-
-same-length-2 : tie.Need-same-length-2 Inv-loop μ-loop
-same-length-2 c = c .before .before .loop .inv .filled .long
-
-returns-2 : tie.Need-returns-2 Inv-loop μ-loop
-returns-2 c = all (c .before .before .before .before .pre) (c .before .before .loop .inv) (c .if1 .left)
+returns c = all (c .before .before .before .pre) (c .before .loop .inv) (c .loop-test .left)
 
 pub measure-row-spec : {M : Type 1} → statement M
 measure-row-spec =
@@ -132,20 +106,14 @@ measure-row-spec =
     Inv-loop
     μ-loop
     loop-holds
-    sub-loop
-    mul-measure-eight
-    add-measure-eight
-    add-measure-eight-2
-    measure-eight-requires
+    sub-some
+    some-requires
+    mul-measure-some
+    add-measure-some
+    add-measure-some-2
+    measure-some-requires
     add-k
     loop-less
     loop-again
-    mul-measure-each
-    add-measure-each
-    sub-measure-each
-    add-measure-each-2
-    measure-each-requires
     same-length
-    returns
-    same-length-2
-    returns-2)
+    returns)

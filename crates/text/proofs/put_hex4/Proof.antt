@@ -6,7 +6,7 @@ use native.Mathlib.Omega.{arith}
 use lib.ListN.{length, getD, take, drop, set, length-set}
 use denote.Ref.{now}
 use Rattle.text.specs.Numerals.{digitOf, hex4Of, laid}
-use Rattle.laws.proofs.Fours.{put-four}
+use Rattle.text.proofs.Fours.{put-four}
 use borrow.Author.Needs.{needs}
 use Rattle.text.proofs.put_hex4.Statement.{statement}
 use Rattle.text.proofs.put_hex4.Tie as tie
