@@ -12,7 +12,7 @@ use Rattle.window.specs.Window.{statsOf, pixelsAt}
 use Rattle.window_stats.specs.Passes.{wordAt}
 use Rattle.window_stats.proofs.Words.{words-stats, packed-same}
 use Rattle.measure.specs.Figures.{figureOf}
-use Rattle.measure.specs.Gathered.{gathered, figureIn}
+use Rattle.measure.specs.Gathered.{gathered, figureOfWords}
 use Rattle.measure.proofs.Rows.{from-at}
 
 module _ (img : List ℕ) where
@@ -20,7 +20,8 @@ module _ (img : List ℕ) where
   unfolding gathered
   word-at at s n k h =
       let word : ℕ → ℕ = λ k. wordAt img (at + k * s) in
-      List·getD-append (from word 0 n) (drop n (replicate 32 0)) 0 k (omega (arith, length-from word 0 n)) ∙ from-at word 0 0 n k h ∙ ap word (same k)
+      List·getD-append (from word 0 n) (drop n (replicate 32 0)) 0 k (omega (arith, length-from word 0 n))
+      ∙ from-at word 0 0 n k h ∙ ap word (same k)
     where
       same : (a : ℕ) → 0 + a ≡ a
       same a = omega arith
@@ -33,7 +34,8 @@ module _ (img : List ℕ) where
       over x y z = omega arith
 
   pub figures : ((i : ℕ) → Fits w8 (getD img i 0)) → (w y x s n k : ℕ) → k < n
-      → figureIn (gathered img (y * w + x) s n) (gathered img (y * w + x + w) s n) (gathered img (y * w + x + 2 * w) s n) (gathered img (y * w + x + 3 * w) s n) k
+      → figureOfWords (gathered img (y * w + x) s n) (gathered img (y * w + x + w) s n)
+      (gathered img (y * w + x + 2 * w) s n) (gathered img (y * w + x + 3 * w) s n) k
       ≡ figureOf img w y x s k
   figures g w y x s n k h =
       let at = y * w + x in

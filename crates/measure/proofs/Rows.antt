@@ -12,7 +12,8 @@ module _ {A : Type 0} where
   from-alike f g k j zero e = refl
   from-alike f g k j (suc n) e =
       ap (λ (x : A). x ∷ from f (suc k) n) (ap f (first k) ∙ e 0 (omega arith) ∙ ap g (sym (first j)))
-      ∙ ap (λ (l : List A). g j ∷ l) (from-alike f g (suc k) (suc j) n (λ i h. ap f (over k i) ∙ e (suc i) (omega arith) ∙ ap g (sym (over j i))))
+      ∙ ap (λ (l : List A). g j ∷ l)
+      (from-alike f g (suc k) (suc j) n (λ i h. ap f (over k i) ∙ e (suc i) (omega arith) ∙ ap g (sym (over j i))))
     where
       first : (a : ℕ) → a ≡ a + 0
       first a = omega arith

@@ -1,4 +1,4 @@
--- The rows of several windows side by side, four pixels each.
+-- The rows of several windows side by side, four pixels as one number.
 use mathlib.Core.List.{List, _++_}
 use Prim.Native.Nat.{ℕ, _+_, _*_, _≤_}
 use lib.ListN.{length, getD, drop, replicate}
@@ -9,13 +9,13 @@ use Rattle.window.specs.declared.WindowStats.{WindowStats}
 use Rattle.window_stats.specs.Passes.{wordAt, rowsIn}
 use Rattle.measure.specs.Columns.{columnCount}
 
--- the four pixels each from `at`, `at` + s, .. on, n of them, then zeros up to 32
+-- four pixels as one number from `at`, `at` + s, .. on, n times, then zeros up to 32 numbers
 unfoldable pub gathered : List ℕ → ℕ → ℕ → ℕ → List ℕ
 gathered img at s n = from (λ k. wordAt img (at + k * s)) 0 n ++ drop n (replicate 32 0)
 
 -- the figures of window k, its rows being number k of each list
-abbrev pub figureIn : List ℕ → List ℕ → List ℕ → List ℕ → ℕ → WindowStats
-figureIn a b c d k = statsOf (ofRows (rowsIn (getD a k 0) (getD b k 0) (getD c k 0) (getD d k 0)))
+abbrev pub figureOfWords : List ℕ → List ℕ → List ℕ → List ℕ → ℕ → WindowStats
+figureOfWords a b c d k = statsOf (ofRows (rowsIn (getD a k 0) (getD b k 0) (getD c k 0) (getD d k 0)))
 
 -- n windows stand in the lists, and there is room for their figures
 pub record WordsFit (a b c d : List ℕ) (n t to : ℕ) (ints : List ℤ) : Type 0 where

@@ -5,7 +5,7 @@ ghost use lib.ListN.{length};
 ghost use Rattle.grid.specs.Grid.{totalOf};
 ghost use Rattle.measure.specs.Figures.{figureOf, figuresOf, Measurable};
 ghost use Rattle.measure.specs.Columns.{columnsIn, columnCount, Stored, Filled, RowFits};
-ghost use Rattle.measure.specs.Gathered.{gathered, figureIn, WordsFit};
+ghost use Rattle.measure.specs.Gathered.{gathered, figureOfWords, WordsFit};
 use window::WindowStats;
 
 // A window's figures at place i of each column, the columns being t long.
@@ -21,7 +21,7 @@ fn put(ints: &mut [i32], t: usize, i: usize, f: WindowStats)
     ints[2 * t + i] = op;
 }
 
-// Four pixels each from img[at], img[at + s], .. on, n of them.
+// Four pixels as one number from img[at], img[at + s], .. on, n times.
 fn gather(img: &[u8], at: usize, s: usize, n: usize) -> [u32; 32]
     requires { ⌜ (n ≤ 32) × ((k : ℕ) → k < n → at + k * s + 4 ≤ length (now img)) ⌝ }
     ensures { λ r. ⌜ r ≡ gathered (now (img .entry)) at s n ⌝ }
@@ -47,7 +47,8 @@ fn measure_words(
     to: usize,
 )
     requires { ⌜ WordsFit (now a) (now b) (now c) (now d) n t to (now ints) ⌝ }
-    ensures { λ _. ⌜ Filled t to n (figureIn (now (a .entry)) (now (b .entry)) (now (c .entry)) (now (d .entry))) (now (ints .entry)) (now (ints .exit)) ⌝ }
+    ensures { λ _. ⌜ Filled t to n (figureOfWords (now (a .entry)) (now (b .entry)) (now (c .entry)) (now (d .entry)))
+        (now (ints .entry)) (now (ints .exit)) ⌝ }
 {
     let mut k = 0;
     while k < n {
@@ -57,7 +58,8 @@ fn measure_words(
     }
 }
 
-// At most 32 windows, whose pixels are all asked for before the first of them is measured.
+// At most 32 windows of a grid row: all their pixels are asked for before the first is measured, and they stand side by side, so that
+// several can be measured by one instruction.
 fn measure_some(
     img: &[u8],
     w: usize,

@@ -44,7 +44,8 @@ module _ (l : List ℕ) (g : (i : ℕ) → Fits w8 (getD l i 0)) where
   in-row a b e x h =
       ap (λ (r : List ℤ). getD r x (pos 0)) (bytes (getD l a 0) (getD l (a + 1) 0) (getD l (a + 2) 0) (getD l (a + 3) 0)
       (omega (arith, g a .fits)) (omega (arith, g (a + 1) .fits)) (omega (arith, g (a + 2) .fits)) (omega (arith, g (a + 3) .fits)))
-      ∙ below4 (λ x. getD (pos (getD l a 0) ∷ pos (getD l (a + 1) 0) ∷ pos (getD l (a + 2) 0) ∷ pos (getD l (a + 3) 0) ∷ []) x (pos 0) ≡ pos (getD l (b + x) 0))
+      ∙ below4 (λ x. getD (pos (getD l a 0) ∷ pos (getD l (a + 1) 0) ∷ pos (getD l (a + 2) 0) ∷ pos (getD l (a + 3) 0) ∷ []) x (pos 0)
+      ≡ pos (getD l (b + x) 0))
       (one a 0 (omega arith)) (one (a + 1) 1 (omega arith)) (one (a + 2) 2 (omega arith)) (one (a + 3) 3 (omega arith)) x h
     where
       one : (i x : ℕ) → i ≡ b + x → pos (getD l i 0) ≡ pos (getD l (b + x) 0)
@@ -59,8 +60,10 @@ module _ (l : List ℕ) (g : (i : ℕ) → Fits w8 (getD l i 0)) where
       (in-row (at + w) (at + 1 * w) (omega arith) x p) (in-row (at + 2 * w) (at + 2 * w) refl x p)
       (in-row (at + 3 * w) (at + 3 * w) refl x p) y
 
-  pub words-stats : (w at : ℕ) → statsOf (ofRows (rowsIn (wordAt l at) (wordAt l (at + w)) (wordAt l (at + 2 * w)) (wordAt l (at + 3 * w)))) ≡ statsOf (pixelsAt l w at)
+  pub words-stats : (w at : ℕ)
+      → statsOf (ofRows (rowsIn (wordAt l at) (wordAt l (at + w)) (wordAt l (at + 2 * w)) (wordAt l (at + 3 * w)))) ≡ statsOf (pixelsAt l w at)
   words-stats w at = stats-alike (ofRows (rowsAt w at)) (pixelsAt l w at) (place w at)
 
-pub packed-same : {a b c d a′ b′ c′ d′ : ℕ} → a ≡ a′ → b ≡ b′ → c ≡ c′ → d ≡ d′ → statsOf (ofRows (rowsIn a b c d)) ≡ statsOf (ofRows (rowsIn a′ b′ c′ d′))
+pub packed-same : {a b c d a′ b′ c′ d′ : ℕ} → a ≡ a′ → b ≡ b′ → c ≡ c′ → d ≡ d′
+    → statsOf (ofRows (rowsIn a b c d)) ≡ statsOf (ofRows (rowsIn a′ b′ c′ d′))
 packed-same p q r s = ap (λ (m : List (List ℤ)). statsOf (ofRows m)) (four (ap rowIn p) (ap rowIn q) (ap rowIn r) (ap rowIn s))

@@ -21,7 +21,8 @@ loop-holds c = front-start
 
 -- the pixels of window k lie inside the image
 inside : (c : tie.In-loop Inv-loop μ-loop)
-    → c .before .before .before .args .at + c .before .loop .k * c .before .before .before .args .s + 4 ≤ length (now (c .before .before .before .args .img))
+    → c .before .before .before .args .at + c .before .loop .k * c .before .before .before .args .s + 4
+    ≤ length (now (c .before .before .before .args .img))
 inside c = c .before .before .before .pre .1 (c .before .loop .k) (c .loop-test .taken)
 
 mul-word : tie.Need-mul-word Inv-loop μ-loop
@@ -46,7 +47,8 @@ loop-less : tie.Need-loop-less Inv-loop μ-loop
 loop-less c = omega (arith, c .before .loop-test .taken)
 
 loop-again : tie.Need-loop-again Inv-loop μ-loop
-loop-again c = front-put (c .before .before .loop .inv) (c .before .loop-test .taken) (c .before .before .before .before .pre .0) (c .word .ensures)
+loop-again c =
+    front-put (c .before .before .loop .inv) (c .before .loop-test .taken) (c .before .before .before .before .pre .0) (c .word .ensures)
 
 returns : tie.Need-returns Inv-loop μ-loop
 unfolding gathered

@@ -31,7 +31,11 @@ module _ {img : List ℕ} {w y x s n : ℕ} {l₀ : List ℤ} {t to : ℕ} {l : 
       over j = omega arith
 
   more : {l₁ : List ℤ} (b : ℕ) → k + b ≤ n → Filled t (to + k) b (figureOf img w y (x + k * s) s) l l₁ → Inv img w y x s n l₀ t to l₁ (k + b)
-  more b h e = record { low = h; filled = filled-more (omega (arith, f .room)) (f .columns) (λ j g. ap (λ (m : ℕ). figureAt img w (record { x = m; y = y })) (over j)) (i .filled) e }
+  more b h e = record {
+    low = h;
+    filled = filled-more (omega (arith, f .room)) (f .columns)
+        (λ j g. ap (λ (m : ℕ). figureAt img w (record { x = m; y = y })) (over j)) (i .filled) e;
+  }
     where
       over : (j : ℕ) → x + k * s + j * s ≡ x + (k + j) * s
       over j = omega arith
@@ -61,7 +65,8 @@ some-requires c κs = tt
 
 -- window k lies inside the image
 inside : (c : tie.In-loop Inv-loop μ-loop)
-    → c .before .before .before .args .y * c .before .before .before .args .w + (c .before .before .before .args .x + c .before .loop .k * c .before .before .before .args .s)
+    → c .before .before .before .args .y * c .before .before .before .args .w
+    + (c .before .before .before .args .x + c .before .loop .k * c .before .before .before .args .s)
     + 3 * c .before .before .before .args .w + 4 ≤ length (now (c .before .before .before .args .img))
 inside c = c .before .before .before .pre .inside (c .before .loop .k) (c .loop-test .taken)
 
@@ -91,7 +96,8 @@ loop-again : tie.Need-loop-again Inv-loop μ-loop
 loop-again c =
     let l = c .before .before .before .before .before in
     more (l .before .before .pre) (l .loop .inv) (c .before .before .before .some .result)
-    (omega (arith, c .before .before .before .some .ensures, c .before .before .before .before .loop-test .taken)) (c .before .measure-some .ensures)
+    (omega (arith, c .before .before .before .some .ensures, c .before .before .before .before .loop-test .taken))
+    (c .before .measure-some .ensures)
 
 same-length : tie.Need-same-length Inv-loop μ-loop
 same-length c = c .before .loop .inv .filled .long

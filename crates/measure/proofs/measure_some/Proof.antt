@@ -7,13 +7,14 @@ use borrow.Author.Needs.{needs}
 use lib.ListN.{length, getD}
 use denote.Ref.{now}
 use Rattle.window_stats.proofs.Words.{packed-same}
-use Rattle.measure.specs.Gathered.{figureIn}
+use Rattle.measure.specs.Gathered.{figureOfWords}
 use Rattle.measure.proofs.Gathered.{figures}
 use Rattle.measure.proofs.Filling.{filled-same}
 use Rattle.measure.proofs.measure_some.Statement.{statement}
 use Rattle.measure.proofs.measure_some.Tie as tie
 
-four-lists : {a b c d a′ b′ c′ d′ : List ℕ} (k : ℕ) → a ≡ a′ → b ≡ b′ → c ≡ c′ → d ≡ d′ → figureIn a b c d k ≡ figureIn a′ b′ c′ d′ k
+four-lists : {a b c d a′ b′ c′ d′ : List ℕ} (k : ℕ) → a ≡ a′ → b ≡ b′ → c ≡ c′ → d ≡ d′
+    → figureOfWords a b c d k ≡ figureOfWords a′ b′ c′ d′ k
 four-lists k p q r s = packed-same (ap at p) (ap at q) (ap at r) (ap at s)
   where
     at : List ℕ → ℕ
@@ -34,13 +35,13 @@ add-at : tie.Need-add-at
 add-at c = omega (arith, first (c .before))
 
 gather-requires : tie.Need-gather-requires
-gather-requires c κs = ((c .before) .pre .1, λ k h. omega (arith, inside (c .before) k h))
+gather-requires c κs = (c .before .pre .1, λ k h. omega (arith, inside (c .before) k h))
 
 add-gather : tie.Need-add-gather
 add-gather c = omega (arith, first (c .before .before))
 
 gather-requires-2 : tie.Need-gather-requires-2
-gather-requires-2 c κs = ((c .before .before) .pre .1, λ k h. omega (arith, inside (c .before .before) k h))
+gather-requires-2 c κs = (c .before .before .pre .1, λ k h. omega (arith, inside (c .before .before) k h))
 
 mul-gather : tie.Need-mul-gather
 mul-gather c = omega (arith, first (c .before .before .before))
@@ -49,7 +50,7 @@ add-gather-2 : tie.Need-add-gather-2
 add-gather-2 c = omega (arith, first (c .before .before .before))
 
 gather-requires-3 : tie.Need-gather-requires-3
-gather-requires-3 c κs = ((c .before .before .before) .pre .1, λ k h. omega (arith, inside (c .before .before .before) k h))
+gather-requires-3 c κs = (c .before .before .before .pre .1, λ k h. omega (arith, inside (c .before .before .before) k h))
 
 mul-gather-2 : tie.Need-mul-gather-2
 mul-gather-2 c = omega (arith, first (c .before .before .before .before))
@@ -58,7 +59,7 @@ add-gather-3 : tie.Need-add-gather-3
 add-gather-3 c = omega (arith, first (c .before .before .before .before))
 
 gather-requires-4 : tie.Need-gather-requires-4
-gather-requires-4 c κs = ((c .before .before .before .before) .pre .1, λ k h. omega (arith, inside (c .before .before .before .before) k h))
+gather-requires-4 c κs = (c .before .before .before .before .pre .1, λ k h. omega (arith, inside (c .before .before .before .before) k h))
 
 slice-aggregate-measure-words : tie.Need-slice-aggregate-measure-words
 slice-aggregate-measure-words c = search needs

@@ -8,14 +8,14 @@ use lib.IntN.{ℤ}
 use denote.Ref.{now}
 use Rattle.laws.proofs.Fill.{Row, row-start, row-put, row-end}
 use Rattle.measure.specs.Columns.{columnCount, field, column}
-use Rattle.measure.specs.Gathered.{figureIn}
+use Rattle.measure.specs.Gathered.{figureOfWords}
 use Rattle.measure.proofs.Columns.{column-long}
 use Rattle.measure.proofs.measure_words.Statement.{statement}
 use Rattle.measure.proofs.measure_words.Tie as tie
 
 record Inv (a b c d : List ℕ) (n : ℕ) (l₀ : List ℤ) (t to : ℕ) (l : List ℤ) (k : ℕ) : Type 0 where
   low : k ≤ n
-  each : (i : ℕ) → i < columnCount → Row (λ j. field i (figureIn a b c d j)) (column t i l₀) to n k (column t i l)
+  each : (i : ℕ) → i < columnCount → Row (λ j. field i (figureOfWords a b c d j)) (column t i l₀) to n k (column t i l)
   beyond : drop (columnCount * t) l ≡ drop (columnCount * t) l₀
   long : length l ≡ length l₀
 
@@ -32,36 +32,37 @@ mul-packed : tie.Need-mul-packed Inv-loop μ-loop
 mul-packed c = omega (arith, c .before .before .before .before .before .before .pre .first, c .loop-test .taken)
 
 shared-slice-read-packed : tie.Need-shared-slice-read-packed Inv-loop μ-loop
-shared-slice-read-packed c = omega (arith, c .before .before .before .before .before .before .before .pre .first, c .before .loop-test .taken)
+shared-slice-read-packed c = let h = c .before in omega (arith, h .before .before .before .before .before .before .pre .first, h .loop-test .taken)
 
 mul-packed-2 : tie.Need-mul-packed-2 Inv-loop μ-loop
 mul-packed-2 c = mul-packed (c .before)
 
 shared-slice-read-packed-2 : tie.Need-shared-slice-read-packed-2 Inv-loop μ-loop
-shared-slice-read-packed-2 c = omega (arith, c .before .before .before .before .before .before .before .before .pre .second, c .before .before .loop-test .taken)
+shared-slice-read-packed-2 c = let h = c .before .before in omega (arith, h .before .before .before .before .before .before .pre .second, h .loop-test .taken)
 
 mul-packed-3 : tie.Need-mul-packed-3 Inv-loop μ-loop
 mul-packed-3 c = mul-packed (c .before .before)
 
 shared-slice-read-packed-3 : tie.Need-shared-slice-read-packed-3 Inv-loop μ-loop
-shared-slice-read-packed-3 c = omega (arith, c .before .before .before .before .before .before .before .before .before .pre .third, c .before .before .before .loop-test .taken)
+shared-slice-read-packed-3 c = let h = c .before .before .before in omega (arith, h .before .before .before .before .before .before .pre .third, h .loop-test .taken)
 
 mul-packed-4 : tie.Need-mul-packed-4 Inv-loop μ-loop
 mul-packed-4 c = mul-packed (c .before .before .before)
 
 shared-slice-read-packed-4 : tie.Need-shared-slice-read-packed-4 Inv-loop μ-loop
-shared-slice-read-packed-4 c = omega (arith, c .before .before .before .before .before .before .before .before .before .before .pre .fourth, c .before .before .before .before .loop-test .taken)
+shared-slice-read-packed-4 c = let h = c .before .before .before .before in omega (arith, h .before .before .before .before .before .before .pre .fourth, h .loop-test .taken)
 
 packed-requires : tie.Need-packed-requires Inv-loop μ-loop
 packed-requires c κs = tt
 
 add-put : tie.Need-add-put Inv-loop μ-loop
-add-put c = omega (arith, c .before .before .before .before .before .before .before .before .before .before .before .before .pre .room, c .before .before .before .before .before .before .loop-test .taken)
+add-put c = let h = c .before .before .before .before .before .before in omega (arith, h .before .before .before .before .before .before .pre .room, h .loop-test .taken)
 
 put-requires : tie.Need-put-requires Inv-loop μ-loop
 put-requires c κs =
-    let p = c .before .before .before .before .before .before .before .before .before .before .before .before .pre in
-    (omega (arith, p .room, c .before .before .before .before .before .before .loop-test .taken), omega (arith, p .columns, c .before .before .before .before .before .before .before .loop .inv .long))
+    let h = c .before .before .before .before .before .before in
+    let p = h .before .before .before .before .before .before .pre in
+    (omega (arith, p .room, h .loop-test .taken), omega (arith, p .columns, h .before .loop .inv .long))
 
 add-k : tie.Need-add-k Inv-loop μ-loop
 add-k c = omega (arith, c .before .before .before .before .before .before .before .before .loop-test .taken)
@@ -69,7 +70,8 @@ add-k c = omega (arith, c .before .before .before .before .before .before .befor
 loop-less : tie.Need-loop-less Inv-loop μ-loop
 loop-less c = omega (arith, c .before .before .before .before .before .before .before .before .loop-test .taken)
 
-room : (s : tie.Start Inv-loop μ-loop) (c : ℕ) → c < columnCount → s .args .to + s .args .n ≤ length (column (s .args .t) c (now (s .args .ints)))
+room : (s : tie.Start Inv-loop μ-loop) (c : ℕ) → c < columnCount
+    → s .args .to + s .args .n ≤ length (column (s .args .t) c (now (s .args .ints)))
 room s c h = omega (arith, s .pre .room, column-long (s .args .t) c (now (s .args .ints)) h (s .pre .columns))
 
 loop-again : tie.Need-loop-again Inv-loop μ-loop
@@ -81,7 +83,9 @@ loop-again c =
     let e = c .before .put .ensures in
     record {
       low = omega (arith, k);
-      each = λ j g. subst (λ (l : List ℤ). Row (λ i. field j (figureIn (now (s .args .a)) (now (s .args .b)) (now (s .args .c)) (now (s .args .d)) i)) (column (s .args .t) j (now (s .args .ints))) (s .args .to) (s .args .n) (h .before .loop .k + 1) l)
+      each = λ j g. subst (λ (l : List ℤ).
+          Row (λ i. field j (figureOfWords (now (s .args .a)) (now (s .args .b)) (now (s .args .c)) (now (s .args .d)) i))
+          (column (s .args .t) j (now (s .args .ints))) (s .args .to) (s .args .n) (h .before .loop .k + 1) l)
           (sym (e .each j g)) (row-put (i .each j g) k (room s j g) (ap (field j) (c .before .before .before .packed .ensures)));
       beyond = e .beyond ∙ i .beyond;
       long = e .long ∙ i .long;

@@ -21,7 +21,8 @@ cast-t11 c = search needs
 returns : tie.Need-returns
 returns c =
     let x = c .args .x in
-    four (byte-held {n = x % 256} (record { fits = omega arith })) (byte-held {n = x / 256 % 256} (record { fits = omega arith })) (byte-held {n = x / 65536 % 256} (record { fits = omega arith }))
+    four (byte-held {n = x % 256} (record { fits = omega arith })) (byte-held {n = x / 256 % 256} (record { fits = omega arith }))
+    (byte-held {n = x / 65536 % 256} (record { fits = omega arith }))
     (byte-held {n = x / 16777216} (record { fits = omega (arith, c .fits .x .fits) }))
 
 pub row-spec : {M : Type 1} → statement M

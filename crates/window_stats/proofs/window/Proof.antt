@@ -41,7 +41,8 @@ returns c =
     let k = c .before .before .before .before .before in
     let a = k .before .args in
     c .packed .ensures
-    ∙ packed-same (c .before .before .before .before .word .ensures) (c .before .before .before .word2 .ensures) (c .before .before .word3 .ensures) (c .before .word4 .ensures)
+    ∙ packed-same (c .before .before .before .before .word .ensures) (c .before .before .before .word2 .ensures)
+    (c .before .before .word3 .ensures) (c .before .word4 .ensures)
     ∙ words-stats (now (a .img)) (k .shared-slice-known .given) (a .w) (a .at)
 
 pub window-spec : {M : Type 1} → statement M

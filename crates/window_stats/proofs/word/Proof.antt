@@ -41,7 +41,8 @@ cast-d : tie.Need-cast-d
 cast-d c = let a = c .before .before .before .before .args .at in omega (arith, c .shared-slice-known4 .given (a + 3) .fits)
 
 -- the four are bytes
-bytes : (c : tie.After-shared-slice-known4) → let l = now (c .before .before .before .before .args .img) in let a = c .before .before .before .before .args .at in
+bytes : (c : tie.After-shared-slice-known4)
+    → let l = now (c .before .before .before .before .args .img) in let a = c .before .before .before .before .args .at in
     (getD l a 0 < 256) × (getD l (a + 1) 0 < 256) × (getD l (a + 2) 0 < 256) × (getD l (a + 3) 0 < 256)
 bytes c =
     let g = c .shared-slice-known4 .given in
