@@ -33,13 +33,16 @@ module _ (img : List ℕ) where
       over : (x y z : ℕ) → x + y + z ≡ x + z + y
       over x y z = omega arith
 
-  pub figures : ((i : ℕ) → Fits w8 (getD img i 0)) → (w y x s n k : ℕ) → k < n
-      → figureOfWords (gathered img (y * w + x) s n) (gathered img (y * w + x + w) s n)
-      (gathered img (y * w + x + 2 * w) s n) (gathered img (y * w + x + 3 * w) s n) k
-      ≡ figureOf img w y x s k
-  figures g w y x s n k h =
+  -- of windows whose four rows are gathered in a, b, c and d
+  pub figures : ((i : ℕ) → Fits w8 (getD img i 0)) → (w y x s n : ℕ) {a b c d : List ℕ}
+      → a ≡ gathered img (y * w + x) s n → b ≡ gathered img (y * w + x + w) s n
+      → c ≡ gathered img (y * w + x + 2 * w) s n → d ≡ gathered img (y * w + x + 3 * w) s n
+      → (k : ℕ) → k < n → figureOfWords a b c d k ≡ figureOf img w y x s k
+  figures g w y x s n p q r u k h =
       let at = y * w + x in
-      packed-same (word-at at s n k h) (word-below at w s n k h) (word-below at (2 * w) s n k h) (word-below at (3 * w) s n k h)
+      let read : List ℕ → ℕ = λ l. getD l k 0 in
+      packed-same (ap read p ∙ word-at at s n k h) (ap read q ∙ word-below at w s n k h)
+      (ap read r ∙ word-below at (2 * w) s n k h) (ap read u ∙ word-below at (3 * w) s n k h)
       ∙ words-stats img g w (at + k * s) ∙ ap (λ (i : ℕ). statsOf (pixelsAt img w i)) (over (y * w) x (k * s))
     where
       over : (a b c : ℕ) → a + b + c ≡ a + (b + c)

@@ -1,24 +1,13 @@
 -- `measure::measure_some` meets its contract: the gathered windows have the figures of the image's.
-use mathlib.Core.Path.{_≡_, ap, _∙_}
-use mathlib.Core.List.{List}
 use Prim.Native.Nat.{ℕ, _+_, _*_, _≤_, _<_}
 use native.Mathlib.Omega.{arith}
 use borrow.Author.Needs.{needs}
-use lib.ListN.{length, getD}
+use lib.ListN.{length}
 use denote.Ref.{now}
-use Rattle.window_stats.proofs.Words.{packed-same}
-use Rattle.measure.specs.Gathered.{figureOfWords}
 use Rattle.measure.proofs.Gathered.{figures}
 use Rattle.measure.proofs.Filling.{filled-same}
 use Rattle.measure.proofs.measure_some.Statement.{statement}
 use Rattle.measure.proofs.measure_some.Tie as tie
-
-four-lists : {a b c d a′ b′ c′ d′ : List ℕ} (k : ℕ) → a ≡ a′ → b ≡ b′ → c ≡ c′ → d ≡ d′
-    → figureOfWords a b c d k ≡ figureOfWords a′ b′ c′ d′ k
-four-lists k p q r s = packed-same (ap at p) (ap at q) (ap at r) (ap at s)
-  where
-    at : List ℕ → ℕ
-    at l = getD l k 0
 
 -- window k lies inside the image
 inside : (s : tie.Start) (k : ℕ) → k < s .args .n
@@ -85,8 +74,8 @@ returns c =
     let e = g .before .before .before in
     let a = e .before .before .args in
     filled-same
-    (λ k h. four-lists k (e .gather .ensures) (g .before .before .gather2 .ensures) (g .before .gather3 .ensures) (g .gather4 .ensures)
-    ∙ figures (now (a .img)) (e .before .shared-slice-known .given) (a .w) (a .y) (a .x) (a .s) (a .n) k h)
+    (figures (now (a .img)) (e .before .shared-slice-known .given) (a .w) (a .y) (a .x) (a .s) (a .n)
+    (e .gather .ensures) (g .before .before .gather2 .ensures) (g .before .gather3 .ensures) (g .gather4 .ensures))
     (c .before .measure-words .ensures)
 
 pub measure-some-spec : {M : Type 1} → statement M
