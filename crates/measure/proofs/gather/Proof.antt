@@ -1,6 +1,5 @@
 -- `measure::gather` meets its contract: the front of an array of zeros is written.
-use mathlib.Core.List.{List}
-use Prim.Native.Nat.{ℕ, _+_, _-_, _*_, _≤_}
+use Prim.Native.Nat.{_+_, _-_, _*_, _≤_}
 use native.Mathlib.Omega.{arith}
 use lib.ListN.{length, replicate}
 use denote.Ref.{now}

@@ -1,13 +1,13 @@
 -- `measure::measure_row` meets its contract: up to 32 windows more each turn.
-use mathlib.Core.Path.{_≡_, sym, ap, _∙_, subst}
+use mathlib.Core.Path.{_≡_, ap, subst}
 use mathlib.Core.List.{List}
-use Prim.Native.Nat.{ℕ, _+_, _-_, _*_, _≤_, _<_}
+use Prim.Native.Nat.{ℕ, _+_, _-_, _*_, _≤_}
 use native.Mathlib.Omega.{arith}
 use lib.ListN.{length}
 use lib.IntN.{ℤ}
 use denote.Ref.{now}
 use Rattle.measure.specs.Figures.{figureAt, figureOf}
-use Rattle.measure.specs.Columns.{columnCount, Filled, RowFits}
+use Rattle.measure.specs.Columns.{Filled, RowFits}
 use Rattle.measure.proofs.Filling.{filled-none, filled-more}
 use Rattle.measure.proofs.measure_row.Statement.{statement}
 use Rattle.measure.proofs.measure_row.Tie as tie

@@ -1,6 +1,6 @@
 -- `window_stats::word` meets its contract: four bytes make a number below 2^32.
 use mathlib.Core.Path.{refl}
-use Prim.Native.Nat.{ℕ, _+_, _<_}
+use Prim.Native.Nat.{_+_, _<_}
 use native.Mathlib.Omega.{arith}
 use borrow.Author.Needs.{needs}
 use lib.ListN.{getD}
