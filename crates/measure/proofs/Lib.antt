@@ -1,3 +1,5 @@
 pub mod Rows
 pub mod Columns
+pub mod Gathered
+pub mod Filling
 pub mod Measuring

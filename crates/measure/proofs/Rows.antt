@@ -3,14 +3,60 @@ use mathlib.Core.Path.{_≡_, refl, sym, ap, _∙_}
 use mathlib.Core.List.{List, [], _∷_, _++_, map}
 use Prim.Native.Nat.{ℕ, zero, suc, _+_, _≤_, _<_}
 use native.Mathlib.Omega.{arith}
+use lib.ListN.{getD}
 use Rattle.laws.specs.Lists.{from, joined}
 
 module _ {A : Type 0} where
+  -- what stands from k on in f stands from j on in g
+  pub from-alike : (f g : ℕ → A) (k j n : ℕ) → ((i : ℕ) → i < n → f (k + i) ≡ g (j + i)) → from f k n ≡ from g j n
+  from-alike f g k j zero e = refl
+  from-alike f g k j (suc n) e =
+      ap (λ (x : A). x ∷ from f (suc k) n) (ap f (first k) ∙ e 0 (omega arith) ∙ ap g (sym (first j)))
+      ∙ ap (λ (l : List A). g j ∷ l)
+      (from-alike f g (suc k) (suc j) n (λ i h. ap f (over k i) ∙ e (suc i) (omega arith) ∙ ap g (sym (over j i))))
+    where
+      first : (a : ℕ) → a ≡ a + 0
+      first a = omega arith
+
+      over : (a b : ℕ) → suc a + b ≡ a + suc b
+      over a b = omega arith
+
   pub from-same : (f g : ℕ → A) (k n : ℕ) → ((i : ℕ) → k ≤ i → i < k + n → f i ≡ g i) → from f k n ≡ from g k n
-  from-same f g k zero e = refl
-  from-same f g k (suc n) e =
-      ap (λ (x : A). x ∷ from f (suc k) n) (e k (omega arith) (omega arith))
-      ∙ ap (λ (l : List A). g k ∷ l) (from-same f g (suc k) n (λ i p q. e i (omega arith) (omega arith)))
+  from-same f g k n e = from-alike f g k k n (λ i h. e (k + i) (omega arith) (omega arith))
+
+  -- element i
+  pub from-at : (f : ℕ → A) (d : A) (k n i : ℕ) → i < n → getD (from f k n) i d ≡ f (k + i)
+  from-at f d k zero i h = absurd (none i h)
+    where
+      none : (i : ℕ) → i < zero → ⊥
+      none i h = omega arith
+  from-at f d k (suc n) zero h = ap f (first k)
+    where
+      first : (a : ℕ) → a ≡ a + zero
+      first a = omega arith
+  from-at f d k (suc n) (suc i) h = from-at f d (suc k) n i (omega arith) ∙ ap f (over k i)
+    where
+      over : (a b : ℕ) → suc a + b ≡ a + suc b
+      over a b = omega arith
+
+  -- the first a of them, then b more
+  pub from-split : (f : ℕ → A) (k a b : ℕ) → from f k (a + b) ≡ from f k a ++ from f (k + a) b
+  from-split f k zero b = ap (λ (n : ℕ). from f k n) (left b) ∙ ap (λ (j : ℕ). from f j b) (right k)
+    where
+      left : (a : ℕ) → zero + a ≡ a
+      left a = omega arith
+
+      right : (a : ℕ) → a ≡ a + zero
+      right a = omega arith
+  from-split f k (suc a) b =
+      ap (λ (n : ℕ). from f k n) (more a b)
+      ∙ ap (λ (l : List A). f k ∷ l) (from-split f (suc k) a b ∙ ap (λ (j : ℕ). from f (suc k) a ++ from f j b) (over k a))
+    where
+      more : (a b : ℕ) → suc a + b ≡ suc (a + b)
+      more a b = omega arith
+
+      over : (k a : ℕ) → suc k + a ≡ k + suc a
+      over k a = omega arith
 
   pub joined-same : (f g : ℕ → List A) (k n : ℕ) → ((i : ℕ) → k ≤ i → i < k + n → f i ≡ g i) → joined f k n ≡ joined g k n
   joined-same f g k zero e = refl

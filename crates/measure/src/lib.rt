@@ -1,10 +1,11 @@
 // The windows of a pass measured into the lent i32 slice.
 ghost use mathlib.Core.Path.{_≡_};
-ghost use Prim.Native.Nat.{_*_, _<_, _≤_};
+ghost use Prim.Native.Nat.{ℕ, _+_, _*_, _<_, _≤_, min};
 ghost use lib.ListN.{length};
 ghost use Rattle.grid.specs.Grid.{totalOf};
 ghost use Rattle.measure.specs.Figures.{figureOf, figuresOf, Measurable};
 ghost use Rattle.measure.specs.Columns.{columnsIn, columnCount, Stored, Filled, RowFits};
+ghost use Rattle.measure.specs.Gathered.{gathered, figureOfWords, WordsFit};
 use window::WindowStats;
 
 // A window's figures at place i of each column, the columns being t long.
@@ -18,6 +19,67 @@ fn put(ints: &mut [i32], t: usize, i: usize, f: WindowStats)
     ints[i] = sum;
     ints[t + i] = gate;
     ints[2 * t + i] = op;
+}
+
+// Four pixels as one number from img[at], img[at + s], .. on, n times.
+fn gather(img: &[u8], at: usize, s: usize, n: usize) -> [u32; 32]
+    requires { ⌜ (n ≤ 32) × ((k : ℕ) → k < n → at + k * s + 4 ≤ length (now img)) ⌝ }
+    ensures { λ r. ⌜ r ≡ gathered (now (img .entry)) at s n ⌝ }
+{
+    let mut words = [0u32; 32];
+    let mut k = 0;
+    while k < n {
+        words[k] = window_stats::word(img, at + k * s);
+        k += 1;
+    }
+    words
+}
+
+// The n windows whose rows stand in a, b, c and d, into the columns from place `to` on.
+fn measure_words(
+    a: &[u32],
+    b: &[u32],
+    c: &[u32],
+    d: &[u32],
+    n: usize,
+    ints: &mut [i32],
+    t: usize,
+    to: usize,
+)
+    requires { ⌜ WordsFit (now a) (now b) (now c) (now d) n t to (now ints) ⌝ }
+    ensures { λ _. ⌜ Filled t to n (figureOfWords (now (a .entry)) (now (b .entry)) (now (c .entry)) (now (d .entry)))
+        (now (ints .entry)) (now (ints .exit)) ⌝ }
+{
+    let mut k = 0;
+    while k < n {
+        let f = window_stats::packed(a[k], b[k], c[k], d[k]);
+        put(ints, t, to + k, f);
+        k += 1;
+    }
+}
+
+// At most 32 windows of a grid row: all their pixels are asked for before the first is measured, and they stand side by side, so that
+// several can be measured by one instruction.
+fn measure_some(
+    img: &[u8],
+    w: usize,
+    y: usize,
+    x: usize,
+    s: usize,
+    n: usize,
+    ints: &mut [i32],
+    t: usize,
+    to: usize,
+)
+    requires { ⌜ (1 ≤ n) × (n ≤ 32) × RowFits (now img) w y x s n t to (now ints) ⌝ }
+    ensures { λ _. ⌜ Filled t to n (figureOf (now (img .entry)) w y x s) (now (ints .entry)) (now (ints .exit)) ⌝ }
+{
+    let at = y * w + x;
+    let a = gather(img, at, s, n);
+    let b = gather(img, at + w, s, n);
+    let c = gather(img, at + 2 * w, s, n);
+    let d = gather(img, at + 3 * w, s, n);
+    measure_words(&a, &b, &c, &d, n, ints, t, to);
 }
 
 // The n windows of the grid row at y, s apart from x on, into the columns from place `to` on.
@@ -37,10 +99,20 @@ fn measure_row(
 {
     let mut k = 0;
     while k < n {
-        let f = window_stats::window(img, w, y * w + (x + k * s));
-        put(ints, t, to + k, f);
-        k += 1;
+        let m = some(n - k);
+        measure_some(img, w, y, x + k * s, s, m, ints, t, to + k);
+        k += m;
     }
+}
+
+// How many of n windows are measured at a time.
+fn some(n: usize) -> usize
+    ensures { λ r. ⌜ r ≡ min n 32 ⌝ }
+{
+    if n < 32 {
+        return n;
+    }
+    32
 }
 
 // Every window of the pass, in sampling order, into columns as long as there are windows.

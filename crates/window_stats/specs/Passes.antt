@@ -1,6 +1,6 @@
 -- What each step of the measuring makes: rows of pixels, the four polynomials down and across, the weighted squares.
 use mathlib.Core.List.{List, [], _∷_}
-use Prim.Native.Nat.{ℕ, _+_, _≤_}
+use Prim.Native.Nat.{ℕ, _+_, _*_, _/_, _%_, _≤_}
 use lib.ListN.{getD}
 use lib.IntN.{ℤ, pos, natAbs, _+ℤ_, _-ℤ_, _*ℤ_}
 use Rattle.window.specs.Window.{sq, ofRows}
@@ -8,9 +8,16 @@ use Rattle.window.specs.Window.{sq, ofRows}
 pub record Small (n : ℕ) (z : ℤ) : Type 0 where
   pub small : natAbs z ≤ n
 
--- four pixels from a place of the image
-abbrev pub rowAt : List ℕ → ℕ → List ℤ
-rowAt img at = pos (getD img at 0) ∷ pos (getD img (at + 1) 0) ∷ pos (getD img (at + 2) 0) ∷ pos (getD img (at + 3) 0) ∷ []
+-- four pixels from a place of the image as one number, the first lowest
+abbrev pub wordAt : List ℕ → ℕ → ℕ
+wordAt img at = getD img at 0 + getD img (at + 1) 0 * 256 + getD img (at + 2) 0 * 65536 + getD img (at + 3) 0 * 16777216
+
+-- the four pixels of such a number, and four rows of them
+abbrev pub rowIn : ℕ → List ℤ
+rowIn n = pos (n % 256) ∷ pos (n / 256 % 256) ∷ pos (n / 65536 % 256) ∷ pos (n / 16777216) ∷ []
+
+abbrev pub rowsIn : ℕ → ℕ → ℕ → ℕ → List (List ℤ)
+rowsIn a b c d = rowIn a ∷ rowIn b ∷ rowIn c ∷ rowIn d ∷ []
 
 abbrev pub poly4Of : ℤ → ℤ → ℤ → ℤ → List ℤ
 poly4Of a b c d =

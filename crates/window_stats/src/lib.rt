@@ -5,7 +5,7 @@ ghost use Prim.Native.Nat.{_+_, _*_, _<_, _≤_};
 ghost use lib.ListN.{length};
 ghost use Rattle.laws.specs.Lists.{Each, Each²};
 ghost use Rattle.window.specs.Window.{Pixel, ofRows, pixelsAt, statsOf};
-ghost use Rattle.window_stats.specs.Passes.{Small, rowAt, poly4Of, poly4Column, poly4Down, columnOf, transposed, weighOf};
+ghost use Rattle.window_stats.specs.Passes.{Small, wordAt, rowIn, rowsIn, poly4Of, poly4Column, poly4Down, columnOf, transposed, weighOf};
 use window::WindowStats;
 
 // The window whose first pixel is img[at], its rows being w apart.
@@ -13,23 +13,45 @@ pub fn window(img: &[u8], w: usize, at: usize) -> WindowStats
     requires { ⌜ at + 3 * w + 4 ≤ length (now img) ⌝ }
     ensures { λ r. ⌜ r ≡ statsOf (pixelsAt (now (img .entry)) w at) ⌝ }
 {
-    let r0 = row(img, at);
-    let r1 = row(img, at + w);
-    let r2 = row(img, at + 2 * w);
-    let r3 = row(img, at + 3 * w);
+    let a = word(img, at);
+    let b = word(img, at + w);
+    let c = word(img, at + 2 * w);
+    let d = word(img, at + 3 * w);
+    packed(a, b, c, d)
+}
+
+// Four pixels from img[at] on as one number, the first lowest.
+pub fn word(img: &[u8], at: usize) -> u32
+    requires { ⌜ at + 4 ≤ length (now img) ⌝ }
+    ensures { λ r. ⌜ r ≡ wordAt (now (img .entry)) at ⌝ }
+{
+    let a = img[at] as u32;
+    let b = img[at + 1] as u32;
+    let c = img[at + 2] as u32;
+    let d = img[at + 3] as u32;
+    a + b * 256 + c * 65536 + d * 16777216
+}
+
+// The window whose rows are four such numbers.
+pub fn packed(a: u32, b: u32, c: u32, d: u32) -> WindowStats
+    ensures { λ r. ⌜ r ≡ statsOf (ofRows (rowsIn a b c d)) ⌝ }
+{
+    let r0 = row(a);
+    let r1 = row(b);
+    let r2 = row(c);
+    let r3 = row(d);
     window_stats([r0, r1, r2, r3])
 }
 
-// Four pixels from img[at] on.
-fn row(img: &[u8], at: usize) -> [i32; 4]
-    requires { ⌜ at + 4 ≤ length (now img) ⌝ }
-    ensures { λ r. ⌜ r ≡ rowAt (now (img .entry)) at ⌝ }
+// The four pixels of such a number.
+fn row(x: u32) -> [i32; 4]
+    ensures { λ r. ⌜ r ≡ rowIn x ⌝ }
 {
     [
-        img[at] as i32,
-        img[at + 1] as i32,
-        img[at + 2] as i32,
-        img[at + 3] as i32,
+        (x % 256) as i32,
+        (x / 256 % 256) as i32,
+        (x / 65536 % 256) as i32,
+        (x / 16777216) as i32,
     ]
 }
 

@@ -1,0 +1,71 @@
+-- `measure::gather` meets its contract: the front of an array of zeros is written.
+use Prim.Native.Nat.{_+_, _-_, _*_, _≤_}
+use native.Mathlib.Omega.{arith}
+use lib.ListN.{length, replicate}
+use denote.Ref.{now}
+use Rattle.laws.proofs.Fill.{Front, front-start, front-put, front-end}
+use Rattle.window_stats.specs.Passes.{wordAt}
+use Rattle.measure.specs.Gathered.{gathered}
+use Rattle.measure.proofs.gather.Statement.{statement}
+use Rattle.measure.proofs.gather.Tie as tie
+
+abbrev Inv-loop : tie.InvT-loop
+Inv-loop img at s n words₀ k₀ words k = Front (λ k. wordAt img (at + k * s)) (replicate 32 0) n k words
+
+abbrev μ-loop : tie.MeasureT-loop
+μ-loop img at s n words₀ k₀ words k = n - k
+
+loop-holds : tie.Need-loop-holds Inv-loop μ-loop
+loop-holds c = front-start
+
+-- the pixels of window k lie inside the image
+inside : (c : tie.In-loop Inv-loop μ-loop)
+    → c .before .before .before .args .at + c .before .loop .k * c .before .before .before .args .s + 4
+    ≤ length (now (c .before .before .before .args .img))
+inside c = c .before .before .before .pre .1 (c .before .loop .k) (c .loop-test .taken)
+
+mul-word : tie.Need-mul-word Inv-loop μ-loop
+mul-word c = omega (arith, inside c)
+
+add-word : tie.Need-add-word Inv-loop μ-loop
+add-word c = omega (arith, inside c)
+
+word-requires : tie.Need-word-requires Inv-loop μ-loop
+word-requires c κs = inside c
+
+mul-words : tie.Need-mul-words Inv-loop μ-loop
+mul-words c = omega (arith, c .before .before .before .before .pre .0)
+
+array-write-words : tie.Need-array-write-words Inv-loop μ-loop
+array-write-words c = omega (arith, c .before .before .before .before .pre .0, c .before .loop-test .taken)
+
+add-k : tie.Need-add-k Inv-loop μ-loop
+add-k c = omega (arith, c .before .before .before .before .pre .0)
+
+loop-less : tie.Need-loop-less Inv-loop μ-loop
+loop-less c = omega (arith, c .before .loop-test .taken)
+
+loop-again : tie.Need-loop-again Inv-loop μ-loop
+loop-again c =
+    front-put (c .before .before .loop .inv) (c .before .loop-test .taken) (c .before .before .before .before .pre .0) (c .word .ensures)
+
+returns : tie.Need-returns Inv-loop μ-loop
+unfolding gathered
+returns c = front-end (c .before .loop .inv) (c .loop-test .left)
+
+pub gather-spec : {M : Type 1} → statement M
+gather-spec =
+    tie.close
+    (tie.spec
+    Inv-loop
+    μ-loop
+    loop-holds
+    mul-word
+    add-word
+    word-requires
+    mul-words
+    array-write-words
+    add-k
+    loop-less
+    loop-again
+    returns)
