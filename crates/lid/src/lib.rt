@@ -2,7 +2,7 @@
 ghost use mathlib.Core.Path.{_≡_};
 ghost use mathlib.Core.List.{_++_};
 ghost use Prim.Native.Nat.{_*_, _≤_};
-ghost use lib.ListN.{length, drop};
+ghost use lib.ListN.{length, drop, replicate};
 ghost use Rattle.io.specs.Counts.{Counts};
 ghost use Rattle.answer.specs.Fields.{wordsOf};
 ghost use Rattle.lid.specs.Input.{mostPixels, inputBytes, says, parsedOf};
@@ -21,14 +21,14 @@ const REPORT_BYTES: usize = 260;
 
 // Room for an input.
 pub fn input_room() -> [u8; INPUT_BYTES]
-    ensures { λ r. ⌜ length r ≡ inputBytes ⌝ }
+    ensures { λ r. ⌜ r ≡ replicate inputBytes 0 ⌝ }
 {
     [0u8; INPUT_BYTES]
 }
 
 // Room for a report.
 pub fn report_room() -> [u8; REPORT_BYTES]
-    ensures { λ r. ⌜ length r ≡ reportBytes ⌝ }
+    ensures { λ r. ⌜ r ≡ replicate reportBytes 0 ⌝ }
 {
     [0u8; REPORT_BYTES]
 }

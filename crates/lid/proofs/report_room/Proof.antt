@@ -1,4 +1,4 @@
--- The array is as long as the definition says.
+-- The array is the zeros that the definition says.
 use mathlib.Core.Path.{refl}
 use Rattle.lid.proofs.report_room.Statement.{statement}
 use Rattle.lid.proofs.report_room.Tie as tie
