@@ -1,12 +1,11 @@
 -- How many bytes an answer has, and those of the flat lid: sigma 0, 529 windows in band 2, 2 rounds, 1 pass.
 use mathlib.Core.Path.{_≡_, refl}
-use mathlib.Core.List.{List, [], _∷_}
-use Prim.Native.Nat.{ℕ}
+use mathlib.Core.List.{[], _∷_}
 use lib.ListN.{length}
 use lib.Ieee.{binary32, ofBits, toBits}
 use Rattle.little_endian.specs.Bytes.{bytesOf}
 use Rattle.answer.specs.declared.Answer.{Answer}
-use Rattle.answer.specs.Fields.{wordsOf, bytesOfWords, answerBytes}
+use Rattle.answer.specs.Fields.{bytesOfWords, answerBytes}
 
 pub forty : (a : Answer) → length (answerBytes a) ≡ 40
 unfolding bytesOfWords bytesOf

@@ -1,7 +1,7 @@
 -- A loop that writes ten numbers, four bytes each, and has written k of them.
-use mathlib.Core.Path.{_≡_, refl, sym, ap, _∙_, subst}
+use mathlib.Core.Path.{_≡_, ap, _∙_, subst}
 use Prim.Native.Nat.{ℕ, _+_, _*_, _≤_, _<_}
-use mathlib.Core.List.{List, [], _∷_, _++_}
+use mathlib.Core.List.{List, _++_}
 use native.Mathlib.Omega.{arith}
 use lib.ListN.{length, getD, take, drop}
 use Rattle.laws.proofs.Fill.{Rows, rows-start, rows-put, rows-end}

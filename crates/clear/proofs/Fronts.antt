@@ -1,7 +1,7 @@
 -- A loop that stores one value from the front on.
-use mathlib.Core.Path.{_≡_, refl, sym, ap, _∙_}
+use mathlib.Core.Path.{_≡_, refl, ap, _∙_}
 use Prim.Native.Nat.{ℕ, zero, suc, _≤_}
-use mathlib.Core.List.{List, [], _∷_, _++_}
+use mathlib.Core.List.{List, _∷_, _++_}
 use lib.ListN.{drop, replicate}
 use Rattle.laws.specs.Lists.{from}
 use Rattle.laws.proofs.Fill.{Front, front-end}

@@ -1,7 +1,5 @@
 // The rounds and the joining, a number an export. The bands end before e1, e2, e3 and the end.
 ghost use mathlib.Core.Path.{_≡_};
-ghost use mathlib.Core.List.{[], _∷_};
-ghost use Prim.Native.Nat.{_≤_};
 ghost use lib.ListN.{length};
 ghost use Rattle.quantile.specs.Rising.{at};
 ghost use Rattle.quantile.specs.Quantile.{quiet};

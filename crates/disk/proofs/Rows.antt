@@ -1,12 +1,11 @@
 -- A list in rows of 17 by its index: what stands at place k, so many rows below or above it, so many columns to its right or left.
-use mathlib.Core.Path.{_≡_, refl, sym, ap, _∙_}
-use mathlib.Core.List.{List, [], _∷_}
-use Prim.Native.Nat.{ℕ, zero, suc, _+_, _*_, _-_, _/_, _%_, _≤_, _<_}
+use mathlib.Core.Path.{_≡_, ap, _∙_}
+use mathlib.Core.List.{List}
+use Prim.Native.Nat.{ℕ, _+_, _*_, _-_, _/_, _%_, _≤_}
 use native.Mathlib.Omega.{arith}
-use lib.ListN.{length, getD}
+use lib.ListN.{getD}
 use lib.Ieee.{Float, nan}
-use Rattle.laws.specs.Lists.{from}
-use Rattle.disk.specs.Rows.{inRows, read}
+use Rattle.disk.specs.Rows.{read}
 use Rattle.disk.specs.Smoothing.{binomial, along, down, across}
 
 pub here : (l : List Float) (k : ℕ) → getD l k nan ≡ read l (k / 17) (k % 17)

@@ -1,9 +1,9 @@
 -- A code says which of the two an answer is, and gives it back: a width's bits lie below 2 ^ 32, a number's code from there on.
-use mathlib.Core.Path.{_≡_, refl}
-use Prim.Native.Nat.{ℕ, _+_, _-_, _≤_, _<_}
+use mathlib.Core.Path.{_≡_}
+use Prim.Native.Nat.{ℕ, _-_, _≤_, _<_}
 use native.Mathlib.Omega.{arith}
 use lib.Dec.{T}
-use lib.Ieee.{Float, binary32, fits, ofBits, toBits}
+use lib.Ieee.{Float, binary32, fits, ofBits}
 use lib.Ieee.Bits.{toBits-lt, ofBits-toBits}
 use Rattle.tile.specs.Width.{width, number}
 use Rattle.edge.specs.Code.{code}

@@ -1,8 +1,8 @@
 -- The refusals in their order, and the answer of a tile that holds the samples about the centre.
-use mathlib.Core.Path.{_≡_, refl, sym, ap, _∙_, subst}
+use mathlib.Core.Path.{_≡_, refl, sym, ap, _∙_}
 use mathlib.Core.Bool.{Bool, true, false, cond, _||_}
 use mathlib.Core.List.{List}
-use Prim.Native.Nat.{ℕ, _+_, _*_, _/_, _%_, _≤_, _<_}
+use Prim.Native.Nat.{ℕ, _*_, _/_, _%_, _≤_, _<_}
 use native.Mathlib.Omega.{arith}
 use borrow.Author.Tests.{not-false, eqb-true, ltb-false}
 use lib.Dec.{eqb}
@@ -16,7 +16,7 @@ use Rattle.levels.specs.Whole.{Upto}
 use Rattle.disk.specs.Rows.{inRows, read}
 use Rattle.disk.specs.Smoothing.{smoothed}
 use Rattle.tile.specs.Tile.{tile}
-use Rattle.tile.specs.Width.{Answer, number, edgeOf}
+use Rattle.tile.specs.Width.{number, edgeOf}
 use Rattle.levels.proofs.Folds.{getD-from}
 use Rattle.disk.proofs.Places.{read-rows, smooth-same}
 use Rattle.tile.proofs.Edges.{edge-same}

@@ -1,6 +1,6 @@
 -- The accumulator: reset, a gradient added, and the covariance. A refusal hands the state back as it was.
 use Prim.Native.Nat.{ℕ, _+_, _*_}
-use mathlib.Core.Bool.{Bool, cond, _&&_}
+use mathlib.Core.Bool.{cond, _&&_}
 use mathlib.Core.List.{List, [], _∷_}
 use lib.Dec.{eqb, ltb}
 use lib.IntN.{ℤ, pos}
@@ -10,7 +10,7 @@ use lib.Ieee.{Float, nan, binary32}
 use Rattle.ieee.specs.Order.{finite}
 use Rattle.refine.specs.Covariance.{judged}
 use Rattle.refine.specs.declared.Judged.{Judged}
-use Rattle.refine.specs.declared.Judged.the-variants.{Covariance, Refused}
+use Rattle.refine.specs.declared.Judged.the-variants.{Refused}
 use Rattle.gradients.specs.declared.PixelGradients.{PixelGradients}
 use Rattle.gradients.specs.declared.Handed.{Handed}
 use Rattle.support.specs.Ranges.{stateNumber, offset}

@@ -1,6 +1,6 @@
 -- The order of the sums, on cases where another order gives another figure. The floats are whole numbers, by their f32 patterns. Assumes nothing.
 use mathlib.Core.Path.{_≡_, refl}
-use mathlib.Core.List.{List, [], _∷_}
+use mathlib.Core.List.{[], _∷_}
 use lib.Ieee
 use lib.Ieee.{Float, binary32, ofBits}
 use Rattle.ieee.specs.Convert.{convert}

@@ -1,7 +1,6 @@
 -- What the loop of `noise_sigma` keeps, and the answer from the pass. Assumes nothing.
 use mathlib.Core.Path.{_≡_, refl, sym, ap, _∙_, subst}
-use mathlib.Core.Bool.{Bool, cond}
-use mathlib.Core.List.{List, [], _∷_}
+use mathlib.Core.List.{List}
 use Prim.Native.Nat.{ℕ, zero, suc, _+_, _-_, _*_, _≤_, _<_}
 use native.Mathlib.Omega.{arith}
 use native.Mathlib.Nat.{le-antisymm}
@@ -12,17 +11,16 @@ use lib.Ieee.{Float}
 use borrow.Author.Tests.{lt-ltb, le-ltb}
 use Rattle.laws.specs.Lists.{from}
 use Rattle.laws.proofs.Choice.{chosen, passed}
-use Rattle.laws.proofs.Fill.{Tab, tab-start, tab-put, tab-end, length-from}
-use Rattle.rounds.specs.Rounds.{band, bandVariance, imageVariance, Bands}
+use Rattle.laws.proofs.Fill.{Tab, tab-start, tab-put, tab-end}
+use Rattle.rounds.specs.Rounds.{band, imageVariance, Bands}
 use Rattle.rounds.specs.declared.Settled.{Settled}
 use Rattle.rounds.specs.declared.Found.{Found}
-use Rattle.rounds.specs.declared.Found.the-variants.{Variance, Missing}
 use Rattle.rounds.specs.declared.BandVariance.{BandVariance}
 use Rattle.rounds.proofs.Bands.{length-part, within}
 use Rattle.rounds.proofs.Bounds.{image-rounds, variance-rounds, variance-holds}
 use Rattle.joining.specs.Joining.{bandAt, founds, bandRounds, noiseUnder, noise, minSamples, sigmaOf, countOf, counts}
 use Rattle.joining.specs.declared.Sigma.{Sigma}
-use Rattle.joining.specs.declared.Sigma.the-variants.{Figure, Number}
+use Rattle.joining.specs.declared.Sigma.the-variants.{Number}
 use Rattle.joining.specs.declared.Noise.{Noise}
 
 -- ---- rounds and counts fit

@@ -1,9 +1,8 @@
 -- Each of document 01's numbers is an exact inequality, and sigma is zero unless the number is 0. Assumes nothing.
 use mathlib.Core.Path.{_≡_, refl, sym, ap, _∙_, subst}
-use mathlib.Core.Bool.{Bool, true, false, cond}
 use mathlib.Core.List.{List}
 use mathlib.Core.Logic.{_⊎_, inl, inr}
-use Prim.Native.Nat.{ℕ, _+_, _≤_, _<_}
+use Prim.Native.Nat.{ℕ, _≤_, _<_}
 use native.Mathlib.Omega.{arith}
 use lib.ListN.{length}
 use lib.Ieee.{Float}
@@ -16,7 +15,7 @@ use Rattle.sums.specs.declared.Total.{Total}
 use Rattle.rounds.specs.Rounds.{imageVariance, Bands}
 use Rattle.rounds.specs.declared.Found.{Found}
 use Rattle.rounds.proofs.Bounds.{image-rounds}
-use Rattle.joining.specs.Joining.{variances, median, lid, nothing, joined, minSamples, deviation, decided, sigmaOf, founds, bandRounds, noiseUnder, noise, numberOf, figureOf}
+use Rattle.joining.specs.Joining.{variances, median, lid, nothing, joined, minSamples, deviation, decided, sigmaOf, founds, noiseUnder, noise, numberOf, figureOf}
 use Rattle.joining.specs.declared.Sigma.{Sigma}
 use Rattle.joining.specs.declared.Sigma.the-variants.{Figure, Number}
 use Rattle.joining.specs.declared.Noise.{Noise}

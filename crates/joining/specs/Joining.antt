@@ -1,5 +1,5 @@
 -- The joining of the bands: noise.rs, `noise_sigma`; document 01, "Joining".
-use mathlib.Core.Bool.{Bool, cond}
+use mathlib.Core.Bool.{cond}
 use mathlib.Core.List.{List, [], _∷_, _++_}
 use Prim.Native.Nat.{ℕ, zero, suc, _+_, _-_, _/_, _%_}
 use lib.Dec.{eqb, ltb}

@@ -2,7 +2,7 @@
 ghost use mathlib.Core.Path.{_≡_};
 ghost use mathlib.Core.List.{_++_};
 ghost use Prim.Native.Nat.{ℕ, _+_, _-_, _*_, _^_, _≤_, _<_};
-ghost use lib.ListN.{length, getD, take};
+ghost use lib.ListN.{length, take};
 ghost use Rattle.quantile.specs.Rising.{at, rising, inserted, Rises};
 ghost use Rattle.rounds.specs.Rounds.{part, bandVariance, Bands};
 ghost use Rattle.joining.specs.Joining as Joining;

@@ -9,7 +9,7 @@ use native.Mathlib.Numerals.{add-one}
 use native.Mathlib.Omega.{arith}
 use Rattle.laws.specs.Lists.{from, joined}
 use lib.ListN.{length, getD, take, drop, set, length-set, length-append, length-take, length-drop, take-append-drop, drop-of-length-le}
-use lib.Seq.{take-suc-set, drop-set-lt, drop-cons, drop-drop, append-snoc, drop-length, take-at, drop-at}
+use lib.Seq.{take-suc-set, drop-set-lt, drop-cons, drop-drop, append-snoc, take-at, drop-at}
 
 pub record Writing {A : Type 0} (goal buf₀ : List A) (at : ℕ) (buf rest : List A) : Type 0 where
   pub front : take at buf ++ rest ≡ goal

@@ -1,7 +1,7 @@
 -- The code's float constants are the numbers that the definitions name, rounded once.
 use mathlib.Core.Path.{_≡_, refl}
 use mathlib.Core.Bool.{false}
-use lib.Ieee.{Float, binary32, ofBits, ofInt, round}
+use lib.Ieee.{binary32, ofBits, ofInt, round}
 use Rattle.levels.specs.Whole.{whole}
 
 pub zero-is : ofBits binary32 0 ≡ whole 0

@@ -1,8 +1,7 @@
 -- The levels from the highest and the lowest value, as the code works them out.
-use mathlib.Core.Path.{_≡_, refl, sym, ap, _∙_}
+use mathlib.Core.Path.{_≡_}
 use mathlib.Core.List.{List}
-use mathlib.Core.Bool.{false}
-use lib.Ieee.{Float, binary32, add, sub, mul, le, ofBits, round}
+use lib.Ieee.{Float, binary32, add, sub, mul, le, ofBits}
 use Rattle.levels.specs.Kept.{kept}
 use Rattle.levels.specs.Levels.{mean, highest, lowest, band, highLevel, lowLevel}
 use Rattle.levels.proofs.Constants.{fifth-is}

@@ -1,8 +1,8 @@
 -- The highest and the lowest of whole numbers, compared as whole numbers.
 use mathlib.Core.Path.{_≡_, refl, sym, ap, _∙_}
-use mathlib.Core.Bool.{true, false, true≢false}
+use mathlib.Core.Bool.{true, false}
 use mathlib.Core.List.{List}
-use Prim.Native.Nat.{ℕ, _+_, _^_, _≤_, _<_, min, max}
+use Prim.Native.Nat.{ℕ, _+_, _≤_, _<_, min, max}
 use native.Mathlib.Omega.{arith}
 use lib.ListN.{length, getD}
 use lib.Ieee.{Float, nan, inf, fin, binary32, lt, isNan}

@@ -1,6 +1,6 @@
 -- Keeping the eight largest by insertion gives the last eight of all in rising order.
 use mathlib.Core.Path.{_≡_, refl, sym, ap, _∙_, subst}
-use mathlib.Core.Bool.{Bool, true, false, not, cond, _&&_, _||_}
+use mathlib.Core.Bool.{Bool, true, false, cond, _&&_, _||_}
 use mathlib.Core.List.{List, [], _∷_, _++_, append-nil}
 use Prim.Native.Nat.{ℕ, zero, suc, _+_, _-_, _*_, _≤_, _<_}
 use native.Mathlib.Numerals.{add-one}
@@ -8,13 +8,13 @@ use native.Mathlib.Omega.{arith}
 use lib.Dec.{T}
 use borrow.Author.Tests.{le-ltb}
 use lib.ListN.{length, getD, take, drop, set, replicate, length-set, length-drop, drop-of-length-le}
-use lib.Seq.{drop-cons, drop-drop, getD-drop, take-suc-set, drop-set-lt, append-snoc, set-split, drop-append-add}
+use lib.Seq.{drop-cons, getD-drop, take-suc-set, drop-set-lt, append-snoc, set-split, drop-append-add}
 use lib.Ieee.{Float, nan, inf, fin, lt, eq, isNan, level, up, down}
 use lib.IntN.{pos}
 use lib.Ieee.{binary32, ofBits}
 use Rattle.ieee.specs.Order.{totalLess, negative}
 use Rattle.quantile.specs.Rising.{at, inserted, rising, Rises}
-use Rattle.quantile.proofs.Orders.{upto, below-upto}
+use Rattle.quantile.proofs.Orders.{below-upto}
 use Rattle.laws.proofs.Choice.{chosen, passed}
 use Rattle.ieee.proofs.TotalOrder.{irreflexive}
 use Rattle.quantile.proofs.Rises.{rises-upto, rising-rises, length-inserted}

@@ -1,5 +1,5 @@
 -- The levels of the disk's values: the means of those within a fifth of the range of the largest, and of the smallest.
-use Prim.Native.Nat.{ℕ, max}
+use Prim.Native.Nat.{max}
 use mathlib.Core.Bool.{true, false}
 use mathlib.Core.List.{List, foldl}
 use lib.ListN.{length}

@@ -1,11 +1,11 @@
 -- The noise call on work memory that is always enough.
-use mathlib.Core.Path.{_≡_, refl, sym, ap, _∙_}
-use mathlib.Core.Bool.{Bool, true, false, cond, _||_}
+use mathlib.Core.Path.{_≡_, refl, ap, _∙_}
+use mathlib.Core.Bool.{Bool, true, false, cond}
 use mathlib.Core.List.{List}
 use Prim.Native.Nat.{ℕ, _+_, _*_, _≤_}
 use native.Mathlib.Omega.{arith}
 use native.Mathlib.Nat.{le-trans}
-use lib.Dec.{eqb, ltb}
+use lib.Dec.{eqb}
 use lib.ListN.{length}
 use lib.IntN.{ℤ}
 use lib.Ieee.{Float}
@@ -13,7 +13,7 @@ use Rattle.grid.specs.Needed.{neededOf, firstW, secondW}
 use Rattle.grid.proofs.Places.{total-most}
 use Rattle.grid.proofs.Memory.{no-more}
 use Rattle.answer.specs.declared.Answer.{Answer}
-use Rattle.noise.specs.Refusals.{shortOf, refusalOf}
+use Rattle.noise.specs.Refusals.{refusalOf}
 use Rattle.noise.specs.Call.{Left, refused, measured, clearedInts, clearedFloats, leftBy, noiseOf}
 use Rattle.noise.proofs.Causes.{enough}
 use Rattle.lid.specs.Input.{mostPixels}

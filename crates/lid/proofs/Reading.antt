@@ -10,7 +10,7 @@ use lib.Seq.{slice, take-all, take-take}
 use borrow.Author.Tests.{ltb-false, ltb-true}
 use Rattle.little_endian.specs.Bytes.{valueOf}
 use Rattle.noise.specs.Call.{refused}
-use Rattle.lid.specs.Input.{Parsed, image, number, mostPixels, inputBytes, pixelsOf, parsedOf}
+use Rattle.lid.specs.Input.{number, mostPixels, inputBytes, pixelsOf, parsedOf}
 use Rattle.lid.specs.Answer.{answerBy, lidAnswer}
 use Rattle.lid.proofs.Inputs.{too-many, unlike}
 

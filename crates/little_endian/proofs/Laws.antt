@@ -1,9 +1,9 @@
 -- Writing and reading undo each other: `value-bytes` for a number, `bytes-value` for bytes.
-use mathlib.Core.Path.{_≡_, refl, sym, ap, _∙_, subst}
-use Prim.Native.Nat.{ℕ, zero, suc, _+_, _-_, _*_, _/_, _%_, _^_, _≤_, _<_}
-use mathlib.Core.List.{List, [], _∷_, _++_}
+use mathlib.Core.Path.{_≡_, refl, ap, _∙_}
+use Prim.Native.Nat.{ℕ, zero, suc, _+_, _-_, _*_, _/_, _%_, _^_, _<_}
+use mathlib.Core.List.{List, [], _∷_}
 use native.Mathlib.Omega.{arith}
-use native.Mathlib.Nat.{pow-succ', mod-lt, mod-eq-of-lt, mul-le-mul-left}
+use native.Mathlib.Nat.{pow-succ', mod-lt}
 use lib.ListN.{length}
 use lib.Pow.{pow-pos}
 use Rattle.little_endian.specs.Bytes.{bytesOf, valueOf, Bytes}

@@ -2,10 +2,10 @@
 use mathlib.Core.Path.{_≡_, refl, sym, ap, _∙_, subst}
 use mathlib.Core.Bool.{Bool, true, false, not, cond}
 use mathlib.Core.Logic.{_⊎_, inl, inr}
-use Prim.Native.Nat.{ℕ, zero, suc, _+_, _-_, _*_, _/_, _%_, _^_, _≤_, _<_, min}
-use native.Mathlib.Nat.{le-div-iff-mul-le, div-eq-of-lt, mul-assoc, mul-comm, mul-left-comm, mul-right-comm, mul-le-mul, mul-le-mul-right, mul-le-mul-left, lt-of-lt-of-le, lt-of-le-of-lt, not-le-of-lt, eq-or-lt-of-le, eq-zero-or-pos, mod-eq-of-lt}
+use Prim.Native.Nat.{ℕ, _+_, _-_, _*_, _/_, _%_, _^_, _≤_, _<_, min}
+use native.Mathlib.Nat.{le-div-iff-mul-le, div-eq-of-lt, mul-assoc, mul-right-comm, mul-le-mul, mul-le-mul-left, lt-of-lt-of-le, lt-of-le-of-lt, not-le-of-lt, eq-or-lt-of-le, eq-zero-or-pos, mod-eq-of-lt}
 use native.Mathlib.Omega.{arith}
-use lib.Dec.{T, lit<, lit≤}
+use lib.Dec.{T, lit≤}
 use lib.Pow.{pow-add, pow-pos, pow-mono, shl-lt}
 use lib.Ieee.{Float, nan, inf, fin, binary32, fits, isNan, toBits, ofBits, up, down, ne}
 use lib.Ieee.Bits.{ofBits-toBits}

@@ -1,6 +1,6 @@
 -- Worked cases. Floats are given by their f32 patterns. Assumes nothing.
 use mathlib.Core.Path.{_≡_, refl}
-use mathlib.Core.Bool.{true, false}
+use mathlib.Core.Bool.{false}
 use mathlib.Core.List.{List, [], _∷_}
 use lib.Ieee
 use lib.Ieee.{Float, nan, inf, ofBits}

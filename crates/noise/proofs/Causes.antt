@@ -1,5 +1,5 @@
 -- Each cause of a refusal, where none before it applies.
-use mathlib.Core.Path.{_≡_, refl, sym, ap, _∙_}
+use mathlib.Core.Path.{_≡_, refl}
 use mathlib.Core.Bool.{Bool, true, false, cond, not, _||_}
 use Prim.Native.Nat.{ℕ, suc, _+_, _*_, _≤_, _<_}
 use native.Mathlib.Omega.{arith}
@@ -11,7 +11,6 @@ use Rattle.grid.specs.Needed.{neededOf, firstW, secondW}
 use Rattle.grid.proofs.Places.{total-most}
 use Rattle.grid.proofs.Memory.{no-more}
 use Rattle.grid.proofs.Steps.{few}
-use Rattle.noise.specs.declared.Judged.{Judged}
 use Rattle.noise.specs.Refusals.{shortOf, refusalOf, judgedOf}
 
 no : {k : ℕ} → suc k ≡ 0 → ⊥

@@ -1,8 +1,7 @@
 -- Which pass decides, and the answer it gives.
-use mathlib.Core.Path.{_≡_, refl, sym, ap, _∙_}
-use mathlib.Core.Bool.{Bool, true, false, cond, _||_}
+use mathlib.Core.Path.{_≡_, sym, ap, _∙_}
+use mathlib.Core.Bool.{Bool, cond}
 use Prim.Native.Nat.{ℕ, _+_}
-use lib.Dec.{eqb}
 use borrow.Author.Tests.{eq-eqb, ne-eqb}
 use Rattle.milli.specs.Thousandths.{milliOf}
 use Rattle.answer.specs.declared.Answer.{Answer}

@@ -2,21 +2,20 @@
 use mathlib.Core.Path.{_≡_, refl, sym, ap, _∙_}
 use mathlib.Core.Bool.{Bool, true, false, cond, not, _||_}
 use mathlib.Core.List.{List, _++_}
-use Prim.Native.Nat.{ℕ, suc, _+_, _*_, _≤_, _<_}
+use Prim.Native.Nat.{ℕ, suc, _+_, _*_}
 use native.Mathlib.Omega.{arith}
 use lib.Dec.{eqb, ltb}
 use lib.ListN.{length, replicate}
-use lib.IntN.{ℤ, pos}
-use lib.Ieee.{Float, binary32, ofBits}
+use lib.IntN.{ℤ}
+use lib.Ieee.{Float}
 use borrow.Author.Tests.{eq-eqb, ne-eqb, ltb-false, eqb-true, not-false}
-use Rattle.grid.specs.Grid.{Sides}
 use Rattle.grid.specs.Needed.{neededOf}
 use Rattle.clear.specs.Cleared.{cleared}
 use Rattle.answer.specs.declared.Answer.{Answer}
 use Rattle.pass.specs.Memory.{intsFor, floatsFor, Beyond}
 use Rattle.noise.specs.declared.Judged.{Judged}
 use Rattle.noise.specs.Refusals.{shortOf, refusalOf, judgedOf}
-use Rattle.noise.specs.Call.{Left, refused, measured, clearedInts, clearedFloats, leftBy, noiseOf, Ready}
+use Rattle.noise.specs.Call.{Left, refused, measured, clearedInts, clearedFloats, noiseOf, Ready}
 
 -- clearing sees only what lies beyond
 pub cleared-beyond : {A : Type 0} (z : A) (n : ℕ) (old new : List A) → Beyond n old new → cleared z n new ≡ cleared z n old

@@ -1,17 +1,16 @@
 -- The passes of a call that nothing refuses: each has room, what it leaves beyond M windows is as it was, and the one that decides
 -- gives the answer.
-use mathlib.Core.Path.{_≡_, refl, sym, ap, _∙_, subst}
+use mathlib.Core.Path.{_≡_, refl, sym, ap, _∙_}
 use mathlib.Core.List.{List}
-use Prim.Native.Nat.{ℕ, _+_, _*_, _≤_, _<_}
+use Prim.Native.Nat.{ℕ, _+_, _*_, _≤_}
 use native.Mathlib.Omega.{arith}
-use native.Mathlib.Nat.{mul-le-mul-left}
 use lib.ListN.{length}
 use lib.IntN.{ℤ}
 use lib.Ieee.{Float}
 use Rattle.window.specs.declared.WindowStats.{WindowStats}
 use Rattle.grid.specs.Step.{stepOf}
 use Rattle.grid.specs.Grid.{totalOf}
-use Rattle.grid.specs.Needed.{firstW, secondW, neededOf}
+use Rattle.grid.specs.Needed.{firstW, secondW}
 use Rattle.grid.proofs.Memory.{first-fits, second-fits}
 use Rattle.measure.specs.Figures.{figuresOf}
 use Rattle.answer.specs.declared.Answer.{Answer}

@@ -1,5 +1,5 @@
 -- Band counts plus rail equal T of the pass that decided.
-use mathlib.Core.Path.{_≡_, refl, ap, _∙_}
+use mathlib.Core.Path.{_≡_, _∙_}
 use mathlib.Core.Bool.{Bool, true, false, cond, _||_}
 use mathlib.Core.List.{List}
 use Prim.Native.Nat.{ℕ, _+_, _*_}
@@ -14,8 +14,8 @@ use Rattle.measure.specs.Figures.{figuresOf}
 use Rattle.band.proofs.Counting.{all-counted}
 use Rattle.sample.proofs.Parts.{figures-long}
 use Rattle.answer.specs.declared.Answer.{Answer}
-use Rattle.pass.specs.Pass.{packed, passOf}
-use Rattle.noise.specs.Answers.{endingIn, decided, answerOf}
+use Rattle.pass.specs.Pass.{passOf}
+use Rattle.noise.specs.Answers.{endingIn, decided}
 use Rattle.noise.specs.Call.{measured}
 
 abbrev pub windowsIn : Answer → ℕ

@@ -1,13 +1,12 @@
 -- The noise call, from its arguments to its answer and to what it leaves in the lent slices.
 use mathlib.Core.Path.{_≡_}
-use mathlib.Core.Bool.{Bool, cond}
+use mathlib.Core.Bool.{cond}
 use mathlib.Core.List.{List}
 use Prim.Native.Nat.{ℕ, _*_, _≤_}
 use lib.Dec.{eqb}
 use lib.ListN.{length}
 use lib.IntN.{ℤ, pos}
 use lib.Ieee.{Float, binary32, ofBits}
-use Rattle.window.specs.declared.WindowStats.{WindowStats}
 use Rattle.grid.specs.Step.{stepOf}
 use Rattle.grid.specs.Grid.{Sides}
 use Rattle.grid.specs.Needed.{firstW, secondW, neededOf}

@@ -1,6 +1,6 @@
 -- Why a noise call is refused: document 01, "Numbers the desk reads" and "Work memory".
 use mathlib.Core.Bool.{Bool, cond, not, _||_}
-use Prim.Native.Nat.{ℕ, _+_, _*_}
+use Prim.Native.Nat.{ℕ, _*_}
 use lib.Dec.{ltb, eqb}
 use Rattle.grid.specs.Needed.{neededOf}
 use Rattle.pass.specs.Memory.{intsFor, floatsFor}

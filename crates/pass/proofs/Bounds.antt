@@ -1,7 +1,7 @@
 -- A pass evaluates at most 60 rounds, and its counts are few.
-use mathlib.Core.Path.{_≡_, refl, sym, ap, _∙_, subst}
+use mathlib.Core.Path.{_≡_, sym, ap, subst}
 use mathlib.Core.List.{List}
-use Prim.Native.Nat.{ℕ, _+_, _*_, _^_, _≤_, _<_}
+use Prim.Native.Nat.{ℕ, _*_, _≤_}
 use native.Mathlib.Omega.{arith}
 use native.Mathlib.Nat.{le-trans}
 use lib.Dec.{ltb}
@@ -9,14 +9,14 @@ use lib.ListN.{length}
 use lib.Ieee.{Float}
 use Rattle.laws.proofs.Choice.{cond-both}
 use Rattle.window.specs.declared.WindowStats.{WindowStats}
-use Rattle.grid.specs.Grid.{Sides, totalOf}
+use Rattle.grid.specs.Grid.{Sides}
 use Rattle.grid.proofs.Places.{total-most}
 use Rattle.grid.proofs.Steps.{few}
 use Rattle.measure.specs.Figures.{figuresOf}
 use Rattle.band.specs.Bands.{countOf, rail, sampleOf}
 use Rattle.sample.specs.Laid.{gatesOf, squaresOf}
 use Rattle.band.specs.declared.Sample.{Sample}
-use Rattle.band.proofs.Counting.{Counts, counts, count-most}
+use Rattle.band.proofs.Counting.{counts, count-most}
 use Rattle.sample.proofs.Parts.{figures-long}
 use Rattle.rounds.specs.Rounds.{band, imageVariance}
 use Rattle.rounds.specs.declared.Settled.{Settled}

@@ -1,14 +1,14 @@
 -- What the figures of a pass leave in the two slices, and what the rounds find there.
-use mathlib.Core.Path.{_≡_, refl, sym, ap, _∙_, subst}
-use mathlib.Core.List.{List, [], _∷_, _++_, map, append-assoc}
-use Prim.Native.Nat.{ℕ, _+_, _-_, _*_, _≤_, _<_}
+use mathlib.Core.Path.{_≡_, sym, ap, _∙_}
+use mathlib.Core.List.{List, _++_, append-assoc}
+use Prim.Native.Nat.{ℕ, _+_, _-_, _*_, _≤_}
 use native.Mathlib.Omega.{arith}
 use lib.ListN.{length, take, drop, length-append, length-take, length-drop, length-map}
 use lib.Seq.{drop-at}
 use lib.IntN.{ℤ}
 use lib.Ieee.{Float}
 use Rattle.window.specs.declared.WindowStats.{WindowStats}
-use Rattle.measure.specs.Columns.{columnCount, field, columns, columnsIn}
+use Rattle.measure.specs.Columns.{columnCount, columns, columnsIn}
 use Rattle.band.specs.Bands.{banded, keptOf, sampleOf}
 use Rattle.sample.specs.Laid.{gate32, square32, gatesOf, squaresOf, laidIn}
 use Rattle.band.specs.declared.Sample.{Sample}

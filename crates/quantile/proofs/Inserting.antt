@@ -1,13 +1,13 @@
 -- What the loops of `insert`, `place` and `quantile` keep. Assumes nothing.
 use mathlib.Core.Path.{_≡_, refl, sym, ap, _∙_, subst}
-use mathlib.Core.Bool.{Bool, true, false, cond}
-use mathlib.Core.List.{List, [], _∷_}
+use mathlib.Core.Bool.{true, false}
+use mathlib.Core.List.{List}
 use mathlib.Core.Logic.{⊎-elim, inl, inr}
 use Prim.Native.Nat.{ℕ, zero, suc, _+_, _-_, _*_, _/_, _≤_, _<_, min}
 use native.Mathlib.Omega.{arith}
 use native.Mathlib.Numerals.{add-one}
 use native.Mathlib.Nat.{le-antisymm, eq-or-lt-of-le, lt-of-mul-lt-mul-right, le-div-iff-mul-le, div-lt-iff-lt-mul}
-use lib.ListN.{length, getD, set, take, length-set, length-take, replicate, length-replicate, getD-replicate, List·getD-eq-default}
+use lib.ListN.{length, set, take, length-set, length-take, replicate, length-replicate, getD-replicate, List·getD-eq-default}
 use lib.Seq.{getD-set-same, getD-set-other, getD-take, ext-getD}
 use lib.Ieee.{Float, nan, Format, binary32, binary64, ofBits, div, isNan}
 use Rattle.ieee.specs.Order.{totalLess}
@@ -16,7 +16,7 @@ use Rattle.quantile.specs.Rising.{at, inserted, rising, Rises}
 use Rattle.quantile.specs.Quantile.{stride, taken, quiet}
 use Rattle.quantile.proofs.Orders.{upto}
 use Rattle.ieee.proofs.Naturals.{trichotomy}
-use Rattle.quantile.proofs.Rises.{first, after, slot, slot-is, rises-upto, rising-rises, length-inserted}
+use Rattle.quantile.proofs.Rises.{first, slot, slot-is, rises-upto, rising-rises, length-inserted}
 
 one-more : (j : ℕ) → 0 < j → suc (j - 1) ≡ j
 one-more j h = omega arith

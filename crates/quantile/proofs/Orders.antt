@@ -1,18 +1,18 @@
 -- `totalLess` is a strict order of all floats, and total on those of one format. A float stands in one of five ranks,
 -- and within a rank by its size, of negative ones the other way round. Assumes nothing.
 use mathlib.Core.Path.{_≡_, refl, sym, ap, _∙_, subst}
-use mathlib.Core.Bool.{Bool, true, false, not, _&&_, _||_, cond, true≢false, false≢true}
+use mathlib.Core.Bool.{Bool, true, false, not, _&&_, _||_, cond, true≢false}
 use Prim.Native.Nat.{ℕ, zero, suc, _+_, _-_, _*_, _/_, _^_, _≤_, _<_}
 use mathlib.Core.Logic.{_⊎_, inl, inr}
 use native.Mathlib.Omega.{arith}
 use native.Mathlib.Nat.{le-antisymm, mul-right-comm, lt-irrefl}
-use lib.Dec.{T, ltb, leb, eqb}
+use lib.Dec.{T, ltb, eqb}
 use lib.Ieee.{Float, nan, inf, fin, Format, up, down, low, lt, eq, isNan, fits, toBits, ofBits, below, level, size, prec, hid, ones, top}
 use lib.Ieee.Bits.{ofBits-toBits}
 use lib.Ieee.Fits.{down-pos}
 use lib.Ieee.Nearest.{div-same}
 use lib.Ieee.Positive.{through}
-use borrow.Author.Tests.{lt-ltb, le-ltb, ltb-true, ltb-false, eq-eqb, ne-eqb}
+use borrow.Author.Tests.{lt-ltb, le-ltb, ltb-false, eq-eqb, ne-eqb}
 use Rattle.ieee.specs.Order.{totalLess, negative}
 use Rattle.ieee.proofs.Naturals.{trichotomy}
 use Rattle.ieee.proofs.TotalOrder.{transitive, irreflexive}

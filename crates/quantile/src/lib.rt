@@ -1,6 +1,6 @@
 // The quiet level of a band's gates, or of all: noise.rs, `quantile` at 1/16.
 ghost use mathlib.Core.Path.{_≡_};
-ghost use Prim.Native.Nat.{ℕ, _+_, _/_, _≤_, _<_};
+ghost use Prim.Native.Nat.{_+_, _/_, _≤_, _<_};
 ghost use lib.ListN.{length, take};
 ghost use Rattle.quantile.specs.Rising.{at, inserted, rising, Rises};
 ghost use Rattle.quantile.specs.Quantile.{quiet};

@@ -1,6 +1,6 @@
 -- f32 arithmetic as the formulas write it: each operation is rounded once.
 use Prim.Native.Nat.{ℕ}
-use mathlib.Core.Bool.{true, false}
+use mathlib.Core.Bool.{false}
 use mathlib.Core.List.{List}
 use lib.IntN.{pos, negsuc}
 use lib.ListN.{getD}

@@ -6,8 +6,8 @@ use Prim.Native.Nat.{ℕ, zero, suc, _+_, _-_, _≤_, _<_, min}
 use native.Mathlib.Omega.{arith}
 use native.Mathlib.Nat.{le-antisymm}
 use native.Mathlib.Numerals.{add-one}
-use lib.Dec.{eqb, ltb, leb}
-use lib.ListN.{length, getD, take, drop, length-take, length-drop}
+use lib.Dec.{ltb}
+use lib.ListN.{length, getD, drop, length-take, length-drop}
 use lib.Ieee.{Float, binary64, add, mul, lt}
 use borrow.Author.Tests.{lt-ltb, le-ltb, lt-leb, le-leb}
 use Rattle.ieee.specs.Order.{larger}
@@ -15,7 +15,7 @@ use Rattle.laws.proofs.Choice.{chosen, passed}
 use Rattle.sums.specs.Numbers.{zero64, rounding}
 use Rattle.rounds.specs.Numbers.{ratio}
 use Rattle.sums.specs.Start.{start}
-use Rattle.rounds.specs.Rounds.{settle, bandTotal, minBand, judged, bandBy, bandVariance, part, band, Bands, plus, bandsTotal, imageTotal, imageVariance}
+use Rattle.rounds.specs.Rounds.{settle, bandTotal, minBand, judged, bandBy, bandVariance, part, band, Bands, bandsTotal, imageTotal, imageVariance}
 use Rattle.sums.specs.declared.Total.{Total}
 use Rattle.rounds.specs.declared.Settled.{Settled}
 use Rattle.rounds.specs.declared.Found.{Found}

@@ -1,15 +1,12 @@
 -- What the loops of the rounds keep, for any windows and any number of rounds. Assumes nothing.
 use mathlib.Core.Path.{_≡_, refl, sym, ap, _∙_, subst}
-use mathlib.Core.Bool.{Bool, true, false, cond, _||_}
-use Prim.Native.Nat.{ℕ, zero, suc, _+_, _-_, _≤_, _<_}
+use mathlib.Core.Bool.{Bool, true, false, cond}
+use Prim.Native.Nat.{ℕ, suc, _+_, _-_, _≤_, _<_}
 use native.Mathlib.Omega.{arith}
 use lib.Dec.{eqb}
-use lib.Ieee.{Float, binary64, sub, mul, div, le}
+use lib.Ieee.{Float}
 use borrow.Author.Tests.{eq-eqb, ne-eqb}
-use Rattle.ieee.specs.Order.{magnitude}
-use Rattle.laws.proofs.Choice.{chosen, passed, cond-both}
-use Rattle.sums.specs.Numbers.{whole}
-use Rattle.rounds.specs.Numbers.{settled, moment}
+use Rattle.laws.proofs.Choice.{chosen, passed}
 use Rattle.rounds.specs.Rounds.{next, near, settledAt, round, rounds, most, noCount, settle}
 use Rattle.sums.specs.declared.Total.{Total}
 use Rattle.rounds.specs.declared.Settled.{Settled}

@@ -1,6 +1,6 @@
 -- Worked examples of the rounds.
 use mathlib.Core.Path.{_≡_, refl}
-use mathlib.Core.Bool.{Bool, true, false, cond}
+use mathlib.Core.Bool.{true, false, cond}
 use Prim.Native.Nat.{ℕ}
 use lib.Ieee.{Float, binary64, round, add, sub, mul, div, neg, lt, le, eq, ofBits, ofInt}
 use Rattle.ieee.specs.Order.{larger, magnitude}

@@ -1,12 +1,11 @@
 -- Lines are counted one after the other. Assumes nothing.
 use mathlib.Core.Path.{_≡_, refl, sym, ap, _∙_}
-use mathlib.Core.Bool.{Bool, true, false, cond, Bool·beq, _&&_}
+use mathlib.Core.Bool.{Bool, true, false, Bool·beq}
 use mathlib.Core.List.{List}
-use Prim.Native.Nat.{ℕ, zero, suc, _+_, _*_, _/_, _≤_, _<_}
+use Prim.Native.Nat.{ℕ, suc, _+_, _*_, _/_, _≤_, _<_}
 use native.Mathlib.Numerals.{add-one}
 use native.Mathlib.Nat.{le-div-iff-mul-le}
 use native.Mathlib.Omega.{arith}
-use lib.Dec.{eqb}
 use lib.ListN.{length, getD}
 use borrow.Author.Tests.{eq-eqb, ne-eqb}
 use Rattle.stored.specs.Lines.{widthOf, agreesAt, hitAt, hits, countOf}

@@ -1,6 +1,6 @@
 -- A pattern above the infinity's, its sign left out, is a NaN's; every other is the pattern of the number that it stands for. Assumes nothing.
 use mathlib.Core.Path.{_≡_, refl, sym, ap, _∙_, subst}
-use mathlib.Core.Bool.{Bool, true, false, not, false≢true}
+use mathlib.Core.Bool.{Bool, true, not, false≢true}
 use Prim.Native.Nat.{ℕ, _*_, _%_, _≤_, _<_}
 use lib.Dec.{T}
 use borrow.Author.Tests.{lt-ltb, le-ltb}

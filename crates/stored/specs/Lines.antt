@@ -1,6 +1,6 @@
 -- Lines of a list: a letter, columns of a blank and sixteen hexadecimal digits each, a line end.
 use Prim.Native.Nat.{ℕ, zero, suc, _+_, _-_, _*_, _/_, _%_}
-use mathlib.Core.Bool.{Bool, true, false, cond, Bool·beq, _&&_}
+use mathlib.Core.Bool.{Bool, cond, Bool·beq, _&&_}
 use mathlib.Core.List.{List}
 use lib.Dec.{eqb, ltb, leb}
 use lib.ListN.{length, getD}

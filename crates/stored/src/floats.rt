@@ -1,7 +1,6 @@
 // The float helpers, by letter, on patterns.
 ghost use mathlib.Core.Path.{_≡_};
-ghost use mathlib.Core.Bool.{cond};
-ghost use Prim.Native.Nat.{_%_, _^_};
+ghost use Prim.Native.Nat.{_%_};
 ghost use lib.Ieee as Ieee;
 ghost use lib.Ieee.{binary32, binary64};
 ghost use Rattle.stored.specs.Floats.{single, double, flag, answerOf};

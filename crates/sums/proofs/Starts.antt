@@ -1,6 +1,6 @@
 -- What the loop of `mean_quiet` keeps. Assumes nothing.
 use mathlib.Core.Path.{_≡_, refl, sym, ap, _∙_}
-use mathlib.Core.Bool.{Bool, cond}
+use mathlib.Core.Bool.{cond}
 use mathlib.Core.List.{List}
 use Prim.Native.Nat.{ℕ, _+_, _≤_, _<_}
 use native.Mathlib.Nat.{le-antisymm}
@@ -10,7 +10,6 @@ use lib.ListN.{length}
 use lib.Ieee.{Float, binary64, add, div, le}
 use borrow.Author.Tests.{eq-eqb, ne-eqb}
 use Rattle.laws.proofs.Choice.{chosen, passed}
-use Rattle.quantile.specs.Tally.{tally}
 use Rattle.quantile.specs.Rising.{at}
 use Rattle.quantile.specs.Quantile.{quiet}
 use Rattle.sums.specs.Numbers.{zero64, whole}

@@ -1,5 +1,5 @@
 -- How many decimal digits: `places` is the fewest, and there is one such number. Assumes nothing.
-use mathlib.Core.Path.{_≡_, refl, sym, ap, _∙_, subst}
+use mathlib.Core.Path.{_≡_, refl, _∙_, subst}
 use mathlib.Core.Bool.{Bool, true, false, cond}
 use Prim.Native.Nat.{ℕ, zero, suc, _+_, _*_, _-_, _/_, _^_, _%_, _≤_, _<_}
 use native.Mathlib.Omega.{arith}
@@ -7,7 +7,7 @@ use native.Mathlib.Nat.{pow-le-pow-right}
 use lib.Dec.{T, ltb, ltb→lt, nltb→le}
 use mathlib.Core.Bool.{not}
 use Rattle.io.specs.Digits.{Fewest, digits, glyph}
-use mathlib.Core.List.{List, [], _∷_}
+use mathlib.Core.List.{[], _∷_}
 use lib.ListN.{length, length-append}
 use Rattle.text.specs.Numerals.{places, decimalOf}
 

@@ -1,7 +1,6 @@
 -- Numerals and a line by example: document 01's flat lid. Assumes nothing.
 use mathlib.Core.Path.{_≡_, refl}
-use mathlib.Core.List.{List, [], _∷_}
-use Prim.Native.Nat.{ℕ}
+use mathlib.Core.List.{[], _∷_}
 use Rattle.text.specs.Numerals.{places, decimalOf, digitOf, hex8Of}
 use Rattle.text.specs.Line.{fieldOf, lineOf}
 

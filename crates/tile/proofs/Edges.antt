@@ -1,6 +1,6 @@
 -- What the steps of `edge_width` leave, put together: the answer of the tile's smoothed square.
 use mathlib.Core.Path.{_≡_, refl, sym, ap, _∙_, subst}
-use mathlib.Core.Bool.{Bool, true, false, cond}
+use mathlib.Core.Bool.{true, false}
 use mathlib.Core.List.{List}
 use Prim.Native.Nat.{ℕ, _+_, _*_, _/_, _%_, _≤_, _<_}
 use native.Mathlib.Omega.{arith}
@@ -14,7 +14,7 @@ use Rattle.disk.specs.Smoothing.{down, across, smoothed}
 use Rattle.disk.specs.Disk.{disk}
 use Rattle.disk.specs.Gradients.{values, squaredAt, gradients}
 use Rattle.levels.specs.Levels.{highLevel, lowLevel}
-use Rattle.tile.specs.Width.{Answer, width, number, rootTwoPi, edgeOf}
+use Rattle.tile.specs.Width.{width, number, edgeOf}
 use Rattle.levels.specs.Steepness.{steepness}
 use Rattle.levels.proofs.Constants.{zero-is}
 use Rattle.tile.proofs.Constants.{root-is}

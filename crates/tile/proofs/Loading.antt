@@ -1,18 +1,17 @@
 -- Rows of pixels laid one after the other are the tile in rows.
 use mathlib.Core.Path.{_≡_, refl, sym, ap, _∙_, subst}
-use mathlib.Core.Bool.{Bool, true, false}
 use mathlib.Core.List.{List, [], _∷_, _++_, append-nil}
 use Prim.Native.Nat.{ℕ, zero, suc, _+_, _*_, _-_, _/_, _%_, _≤_, _<_}
 use native.Mathlib.Omega.{arith}
 use borrow.Author.Tests.{eq-eqb, ne-eqb}
-use lib.ListN.{length, getD, drop, replicate, drop-of-length-le}
+use lib.ListN.{length, getD, replicate, drop-of-length-le}
 use lib.IntN.{ℤ, pos, negsuc, sucℤ, natAbs, _+ℤ_, _-ℤ_, sucℤ-+ℤ, +ℤ-idl}
 use lib.Ieee.{Float, binary32, ofBits}
 use Rattle.laws.specs.Lists.{from, joined}
 use Rattle.laws.proofs.Fill.{length-from, Rows, rows-put, rows-end}
 use Rattle.laws.proofs.Ring.{ring, v, k as lit, _⊕_, _⊖_}
 use Rattle.laws.proofs.Machine.{held}
-use Rattle.imageview.specs.Sample.{clamped, pixel, sample}
+use Rattle.imageview.specs.Sample.{clamped, pixel}
 use Rattle.imageview.proofs.Nearest.{clamped-most, in-image}
 use Rattle.levels.specs.Whole.{whole}
 use Rattle.levels.proofs.Constants.{zero-is}

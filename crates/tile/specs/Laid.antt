@@ -1,7 +1,7 @@
 -- A row of the tile as the code lays it: pixels in given columns of one row, over part of the samples.
 use Prim.Native.Nat.{ℕ, _+_}
 use mathlib.Core.List.{List, _++_}
-use lib.ListN.{length, getD, take, drop}
+use lib.ListN.{getD, take, drop}
 use lib.Ieee.{Float}
 use Rattle.levels.specs.Whole.{whole}
 

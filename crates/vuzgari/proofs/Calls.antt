@@ -1,14 +1,13 @@
 -- What a call from C leaves: all as it was under a refusal, else the answer's bytes and cleared memory.
 use mathlib.Core.Path.{_≡_, refl, sym, ap, _∙_}
-use mathlib.Core.Bool.{Bool, true, false, cond, _||_}
+use mathlib.Core.Bool.{Bool, false, cond, _||_}
 use mathlib.Core.List.{List, _++_}
 use Prim.Native.Nat.{ℕ, _≤_, _<_}
-use native.Mathlib.Omega.{arith}
 use lib.Dec.{eqb, ltb}
 use lib.ListN.{length, drop}
 use lib.IntN.{ℤ}
 use lib.Ieee.{Float}
-use borrow.Author.Tests.{eq-eqb, ne-eqb, lt-ltb, le-ltb}
+use borrow.Author.Tests.{ne-eqb, lt-ltb, le-ltb}
 use Rattle.grid.specs.Needed.{neededOf}
 use Rattle.answer.specs.declared.Answer.{Answer}
 use Rattle.answer.specs.Fields.{answerBytes}
@@ -17,7 +16,7 @@ use Rattle.noise.specs.Refusals.{shortOf, refusalOf, judgedOf}
 use Rattle.noise.specs.Call.{measured, clearedInts, clearedFloats}
 use Rattle.noise.proofs.Causes.{same-cause, only-cause}
 use Rattle.noise.proofs.Leaving.{number-is, windows-is}
-use Rattle.vuzgari.specs.Noise.{Left, leftBy, noiseOf}
+use Rattle.vuzgari.specs.Noise.{Left, noiseOf}
 
 module _ (img : List ℕ) (w h : ℕ) (ints : List ℤ) (floats : List Float) (out : List ℕ) (j : Judged) (is : j ≡ judgedOf (length img) w h (length ints) (length floats)) where
   abbrev short : Bool

@@ -1,5 +1,5 @@
 -- The noise call as C makes it, from its arguments to what it returns and leaves in the lent slices.
-use mathlib.Core.Bool.{Bool, cond, _||_}
+use mathlib.Core.Bool.{cond, _||_}
 use mathlib.Core.List.{List, _++_}
 use Prim.Native.Nat.{ℕ}
 use lib.Dec.{eqb, ltb}

@@ -1,7 +1,6 @@
 -- `bits` meets its contract: only a NaN differs from itself, and its pattern is the one written.
 use mathlib.Core.Path.{_≡_}
 use mathlib.Core.Bool.{true}
-use Prim.Native.Nat.{ℕ}
 use lib.Ieee.{Float, binary32, toBits, ne}
 use lib.Ieee.Compare.{differs-from-itself}
 use Rattle.ieee.proofs.Tests.{yes, no-nan}

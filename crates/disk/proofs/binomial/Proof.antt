@@ -1,5 +1,5 @@
 -- The same operations, with the constants named.
-use mathlib.Core.Path.{_≡_, refl}
+use mathlib.Core.Path.{refl}
 use Rattle.disk.proofs.Constants.{four-is, six-is}
 use Rattle.disk.proofs.binomial.Statement.{statement}
 use Rattle.disk.proofs.binomial.Tie as tie

@@ -1,10 +1,8 @@
 -- The bits of a width, a NaN's being those of the one NaN; or the number past 2 ^ 32.
-use mathlib.Core.Path.{_≡_, refl, sym, ap, _∙_, subst}
-use mathlib.Core.Bool.{Bool, true, false, not}
+use mathlib.Core.Path.{_≡_, refl, sym, ap, _∙_}
 use Prim.Native.Nat.{ℕ, _+_}
 use borrow.Author.Needs.{needs}
-use lib.Dec.{T}
-use lib.Ieee.{Float, nan, ne, isNan, binary32, toBits}
+use lib.Ieee.{nan, binary32, toBits}
 use Rattle.ieee.proofs.Tests.{nan-is, no-nan}
 use Rattle.tile.specs.Width.{answer}
 use Rattle.edge.specs.Code as Code

@@ -1,9 +1,7 @@
 -- Each return is one case of the order; the tile holds bytes, as `PixelTile::edge_width` asks.
-use mathlib.Core.Path.{_≡_, refl, sym, _∙_}
-use Prim.Native.Nat.{ℕ, _≤_, _<_}
+use mathlib.Core.Path.{sym, _∙_}
 use native.Mathlib.Omega.{arith}
 use borrow.Author.Needs.{needs}
-use lib.ListN.{getD}
 use denote.Ref.{now}
 use Rattle.edge.proofs.Judged.{near, refused-is, long-is, centre-far, origin-far, answer-is, samples-upto}
 use Rattle.edge.proofs.edge_width.Statement.{statement}

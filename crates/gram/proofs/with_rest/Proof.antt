@@ -1,5 +1,5 @@
 -- Each turn takes the next gradient to the one sum. Assumes nothing.
-use Prim.Native.Nat.{_+_, _*_, _/_, _%_, _≤_, _-_}
+use Prim.Native.Nat.{_+_, _*_, _/_, _≤_, _-_}
 use native.Mathlib.Omega.{arith}
 use lib.ListN.{length}
 use denote.Ref.{now}

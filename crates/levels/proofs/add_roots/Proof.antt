@@ -1,11 +1,10 @@
 -- A fold by the sum with the next root.
-use mathlib.Core.Path.{_≡_, refl, sym, ap, _∙_, subst}
-use Prim.Native.Nat.{ℕ, _+_, _*_, _-_, _/_, _%_, _≤_, _<_}
+use mathlib.Core.Path.{sym, ap, _∙_}
+use Prim.Native.Nat.{_-_}
 use native.Mathlib.Omega.{arith}
-use lib.ListN.{length, getD}
 use denote.Ref.{now}
 use lib.Ieee.{Float, nan, binary32}
-use mathlib.Core.List.{List, map, foldl}
+use mathlib.Core.List.{foldl}
 use lib.Ieee.{add}
 use Rattle.ieee.specs.Sqrt.{sqrt}
 use Rattle.levels.proofs.Folds.{Folding, fold-start, fold-put, fold-end, foldl-map}

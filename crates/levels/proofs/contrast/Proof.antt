@@ -1,11 +1,11 @@
 -- The cuts are a fifth of the range from the highest and the lowest value.
-use mathlib.Core.Path.{_≡_, refl, sym, ap, _∙_}
+use mathlib.Core.Path.{ap, _∙_}
 use denote.Ref.{now}
 use mathlib.Core.List.{List}
 use lib.ListN.{getD}
 use lib.Ieee.{Float, nan, binary32, sub}
 use borrow.Author.Needs.{needs}
-use Rattle.levels.specs.Levels.{highLevel, lowLevel}
+use Rattle.levels.specs.Levels.{highLevel}
 use Rattle.levels.proofs.Contrasts.{high-is, low-is}
 use Rattle.levels.proofs.contrast.Statement.{statement}
 use Rattle.levels.proofs.contrast.Tie as tie

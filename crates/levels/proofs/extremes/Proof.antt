@@ -1,12 +1,10 @@
 -- Two folds over whole numbers, from the first value on.
-use mathlib.Core.Path.{_≡_, refl, sym, ap, _∙_}
-use mathlib.Core.List.{List, [], _∷_}
-use Prim.Native.Nat.{ℕ, _+_, _-_, _*_, _≤_, _<_, max, min}
+use mathlib.Core.List.{[], _∷_}
+use Prim.Native.Nat.{_-_}
 use native.Mathlib.Omega.{arith}
 use borrow.Author.Needs.{needs}
-use denote.Ref.{now}
 use lib.Dec.{le→leb}
-use lib.Ieee.{Float, inFloat}
+use lib.Ieee.{inFloat}
 use Rattle.levels.proofs.Ends.{Ends, begin, turn, most-done, least-done}
 use Rattle.levels.proofs.extremes.Statement.{statement}
 use Rattle.levels.proofs.extremes.Tie as tie

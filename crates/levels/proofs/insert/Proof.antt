@@ -1,8 +1,7 @@
 -- From the first place on each takes its new number; the last takes the larger of v and what it holds.
-use mathlib.Core.Path.{_≡_, refl}
-use Prim.Native.Nat.{ℕ, _+_, _-_, _≤_, _<_}
+use Prim.Native.Nat.{_-_}
 use native.Mathlib.Omega.{arith}
-use lib.ListN.{length, getD, drop}
+use lib.ListN.{drop}
 use denote.Ref.{now}
 use Rattle.quantile.specs.Rising.{inserted}
 use Rattle.levels.proofs.Largests.{Sliding, stay, slide-start, slide-more, slide-end}

@@ -1,10 +1,7 @@
 -- Each turn inserts the next gradient among the eight largest so far.
-use mathlib.Core.Path.{_≡_, refl}
-use Prim.Native.Nat.{ℕ, _+_, _-_, _≤_, _<_}
+use Prim.Native.Nat.{_-_}
 use native.Mathlib.Omega.{arith}
-use lib.ListN.{length, getD}
 use denote.Ref.{now}
-use lib.Ieee.{Float, nan}
 use Rattle.levels.proofs.Largests.{Kept, clear-at, keep-start, kept-rises, keep-put, keep-end}
 use Rattle.levels.proofs.largest.Statement.{statement}
 use Rattle.levels.proofs.largest.Tie as tie

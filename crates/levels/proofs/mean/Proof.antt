@@ -1,10 +1,9 @@
 -- A sum of at most 2 ^ 24 and a count of at most 81 are exact as an f32, and the larger of the count and 1 is itself unless it is 0.
-use mathlib.Core.Path.{_≡_, refl, sym, ap, _∙_}
-use Prim.Native.Nat.{ℕ, _≤_, _<_, max}
+use mathlib.Core.Path.{_≡_, ap}
+use Prim.Native.Nat.{ℕ, max}
 use native.Mathlib.Omega.{arith}
-use lib.Dec.{T, leb, le→leb}
-use lib.IntN.{pos}
-use lib.Ieee.{Float, binary32, div, inFloat, ofInt}
+use lib.Dec.{le→leb}
+use lib.Ieee.{binary32, div, inFloat}
 use Rattle.levels.specs.Whole.{whole}
 use Rattle.levels.proofs.Constants.{one-is}
 use Rattle.levels.proofs.mean.Statement.{statement}

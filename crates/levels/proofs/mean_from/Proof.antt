@@ -1,10 +1,9 @@
 -- The values from the cut up, added as whole numbers.
-use mathlib.Core.Path.{_≡_, refl, sym, ap, _∙_}
-use Prim.Native.Nat.{ℕ, _+_, _-_, _*_, _≤_, _<_, max}
+use mathlib.Core.Path.{_∙_}
+use Prim.Native.Nat.{_-_}
 use native.Mathlib.Omega.{arith}
 use mathlib.Core.Logic.{⊎-elim}
-use denote.Ref.{now}
-use lib.Ieee.{Float, binary32, div, le}
+use lib.Ieee.{le}
 use Rattle.levels.specs.Whole.{whole}
 use Rattle.levels.proofs.Means.{Summing, begin, taken, left, done}
 use Rattle.levels.proofs.mean_from.Statement.{statement}

@@ -1,8 +1,8 @@
 -- Half the sum of the roots, over eight.
-use mathlib.Core.Path.{_≡_, refl, sym, ap, _∙_}
+use mathlib.Core.Path.{_≡_, ap, _∙_}
 use mathlib.Core.List.{List, map}
 use denote.Ref.{now}
-use lib.Ieee.{Float, binary32, mul, div, round}
+use lib.Ieee.{Float, binary32, mul, div}
 use Rattle.ieee.specs.Sqrt.{sqrt}
 use borrow.Author.Needs.{needs}
 use Rattle.levels.specs.Levels.{total}

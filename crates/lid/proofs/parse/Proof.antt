@@ -1,10 +1,8 @@
 -- The causes in their order, the sides being what the first four bytes say.
-use mathlib.Core.Path.{_≡_, refl, sym, ap, _∙_}
-use Prim.Native.Nat.{ℕ, _+_, _*_, _^_, _≤_, _<_}
+use Prim.Native.Nat.{ℕ, _*_, _^_, _<_}
 use native.Mathlib.Omega.{arith}
 use native.Mathlib.Nat.{mul-le-mul, lt-of-le-of-lt}
 use denote.Ref.{now}
-use Rattle.lid.specs.Input.{widthOf, heightOf}
 use Rattle.lid.proofs.Inputs.{too-short, too-many, unlike, whole}
 use borrow.Author.Needs.{needs}
 use Rattle.lid.proofs.parse.Statement.{statement}

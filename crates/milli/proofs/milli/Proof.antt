@@ -1,10 +1,9 @@
 -- `milli` meets its contract: the digits, shifted down, are the thousandths of the value (proofs/Cutting.antt).
 use borrow.Author.Needs.{needs}
-use mathlib.Core.Path.{_≡_, sym, ap, _∙_, subst}
+use mathlib.Core.Path.{_≡_, sym, ap, subst}
 use mathlib.Core.Logic.{⊎-elim, inl, inr}
 use mathlib.Core.Bool.{not}
-use Prim.Native.Nat.{ℕ, _+_, _-_, _*_, _/_, _%_, _^_, _≤_, _<_}
-use native.Mathlib.Omega.{arith}
+use Prim.Native.Nat.{ℕ, _+_, _-_, _*_, _/_, _%_, _^_}
 use lib.Dec.{T}
 use lib.Ieee.{Float, binary32, fits, isNan, toBits}
 use Rattle.ieee.proofs.Tests.{no-nan}

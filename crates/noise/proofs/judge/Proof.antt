@@ -1,11 +1,9 @@
 -- `judge` meets its contract, cause by cause.
-use mathlib.Core.Path.{_≡_, refl, sym, ap, _∙_}
+use mathlib.Core.Path.{_≡_, refl, ap, _∙_}
 use mathlib.Core.Bool.{Bool, cond}
-use Prim.Native.Nat.{ℕ, _+_, _*_, _≤_, _<_}
+use Prim.Native.Nat.{ℕ, _≤_}
 use native.Mathlib.Omega.{arith}
 use native.Mathlib.Nat.{mul-le-mul}
-use Rattle.grid.specs.Needed.{neededOf}
-use Rattle.noise.specs.declared.Judged.{Judged}
 use Rattle.noise.specs.Refusals.{shortOf, refusalOf}
 use Rattle.noise.proofs.Causes.{above-w, above-h, unlike, below-w, below-h, sides, by-memory, short-ints, short-floats, enough, needed-most, judged-no, judged-yes}
 use borrow.Author.Needs.{needs}

@@ -1,5 +1,5 @@
 -- `passes` meets its contract: the first pass decides, or it is the only one, or the second decides.
-use mathlib.Core.Path.{_≡_, sym, _∙_}
+use mathlib.Core.Path.{_≡_, _∙_}
 use native.Mathlib.Omega.{arith}
 use Prim.Native.Nat.{_*_}
 use denote.Ref.{now}

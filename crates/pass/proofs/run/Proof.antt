@@ -1,5 +1,5 @@
 -- `run` meets its contract: the rounds find in the f32 slice what the figures of the windows say, and both slices change only as far as those reach.
-use mathlib.Core.Path.{_≡_, _∙_}
+use mathlib.Core.Path.{_≡_}
 use mathlib.Core.List.{List}
 use denote.Ref.{now}
 use Rattle.window.specs.declared.WindowStats.{WindowStats}

@@ -1,10 +1,5 @@
-use mathlib.Core.Path.{_≡_, refl, sym, ap, _∙_, subst}
-use mathlib.Core.Bool.{Bool, true, false, not, cond}
-use mathlib.Core.List.{List, [], _∷_, _++_}
-use Prim.Native.Nat.{ℕ, _+_, _*_, _-_, _/_, _%_, _≤_, _<_}
-use native.Mathlib.Omega.{arith}
-use lib.ListN.{length, getD, take, drop, set, length-set}
-use denote.Ref.{now}
+use mathlib.Core.Path.{refl}
+use Prim.Native.Nat.{_-_}
 use borrow.Author.Tests.{lt-ltb, le-ltb}
 use Rattle.text.specs.Numerals.{digitOf}
 use borrow.Author.Needs.{needs}

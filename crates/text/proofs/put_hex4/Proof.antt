@@ -1,11 +1,9 @@
-use mathlib.Core.Path.{_≡_, refl, sym, ap, _∙_, subst}
-use mathlib.Core.Bool.{Bool, true, false, not, cond}
-use mathlib.Core.List.{List, [], _∷_, _++_}
-use Prim.Native.Nat.{ℕ, _+_, _*_, _-_, _/_, _%_, _≤_, _<_}
+use mathlib.Core.Path.{refl, ap, _∙_}
+use Prim.Native.Nat.{ℕ, _+_, _-_, _/_, _%_}
 use native.Mathlib.Omega.{arith}
-use lib.ListN.{length, getD, take, drop, set, length-set}
+use lib.ListN.{set, length-set}
 use denote.Ref.{now}
-use Rattle.text.specs.Numerals.{digitOf, hex4Of, laid}
+use Rattle.text.specs.Numerals.{digitOf}
 use Rattle.text.proofs.Fours.{put-four}
 use borrow.Author.Needs.{needs}
 use Rattle.text.proofs.put_hex4.Statement.{statement}

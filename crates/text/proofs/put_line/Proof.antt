@@ -1,10 +1,10 @@
 -- After k turns k fields are laid, one after the other.
-use mathlib.Core.Path.{_≡_, refl, sym, ap, _∙_, subst}
+use mathlib.Core.Path.{_≡_, refl, sym, ap, _∙_}
 use mathlib.Core.List.{List, [], _∷_, _++_}
 use Prim.Native.Nat.{ℕ, _+_, _*_, _-_, _≤_, _<_}
 use native.Mathlib.Numerals.{add-one}
 use native.Mathlib.Omega.{arith}
-use lib.ListN.{length, getD, take, drop, length-append}
+use lib.ListN.{length, getD, length-append}
 use denote.Ref.{now}
 use Rattle.laws.specs.Lists.{joined}
 use Rattle.text.specs.Numerals.{laid}

@@ -1,5 +1,4 @@
 -- The header is laid from the front on, the line after it.
-use mathlib.Core.Path.{_≡_}
 use native.Mathlib.Omega.{arith}
 use denote.Ref.{now}
 use Rattle.text.specs.Line.{lineOf}

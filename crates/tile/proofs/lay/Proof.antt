@@ -1,10 +1,8 @@
 -- Sample k of the row is the pixel in column k.
-use mathlib.Core.Path.{_≡_, refl, sym, ap, _∙_, subst}
-use Prim.Native.Nat.{ℕ, _+_, _-_, _≤_, _<_}
+use mathlib.Core.Path.{refl}
+use Prim.Native.Nat.{_-_}
 use native.Mathlib.Omega.{arith}
 use borrow.Author.Needs.{needs}
-use lib.ListN.{length, getD}
-use denote.Ref.{now}
 use Rattle.laws.proofs.Fill.{Row, row-start, row-put, row-end}
 use Rattle.tile.specs.Laid.{picked}
 use Rattle.tile.proofs.lay.Statement.{statement}

@@ -1,11 +1,10 @@
 -- c is at most 1,000,000 in size and i below 17, so nothing overflows.
-use mathlib.Core.Path.{_≡_}
 use mathlib.Core.List.{List, [], _∷_}
 use Prim.Native.Nat.{ℕ}
 use native.Mathlib.Omega.{arith}
 use borrow.Author.Needs.{needs}
 use lib.IntN.{ℤ, pos}
-use Rattle.laws.proofs.Ring.{Ex, v, k, _⊕_, _⊖_}
+use Rattle.laws.proofs.Ring.{v, k, _⊕_, _⊖_}
 use Rattle.laws.proofs.Machine.{Within, fits, held-is}
 use Rattle.tile.proofs.near.Statement.{statement}
 use Rattle.tile.proofs.near.Tie as tie

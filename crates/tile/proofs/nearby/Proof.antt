@@ -1,6 +1,6 @@
 -- Entry i is the place i about c.
-use mathlib.Core.Path.{_≡_, refl, sym, ap, _∙_, subst}
-use mathlib.Core.List.{List, [], _∷_}
+use mathlib.Core.Path.{_≡_, refl, ap, _∙_}
+use mathlib.Core.List.{[], _∷_}
 use Prim.Native.Nat.{ℕ, _+_, _-_, _≤_, _<_}
 use native.Mathlib.Omega.{arith}
 use lib.IntN.{ℤ, pos, natAbs, _+ℤ_, _-ℤ_}
@@ -8,7 +8,7 @@ use mir.Syntax.{w32}
 use mir.Val.{toZ}
 use mir.Facts.{toZ-ofZ}
 use Rattle.laws.proofs.Fill.{Tab, tab-start, tab-put, tab-end}
-use Rattle.laws.proofs.Ring.{Ex, v, k as lit, _⊕_, _⊖_}
+use Rattle.laws.proofs.Ring.{v, k as lit, _⊕_, _⊖_}
 use Rattle.laws.proofs.Machine.{held, held-small, under}
 use Rattle.imageview.specs.Sample.{clamped}
 use Rattle.tile.proofs.Loading.{near, places-held, size-held}

@@ -1,12 +1,11 @@
 -- The code of the answer; what the machine holds of the four signed numbers is the numbers.
-use mathlib.Core.Path.{_≡_, refl, ap, _∙_}
+use mathlib.Core.Path.{_≡_, ap, _∙_}
 use mathlib.Core.List.{List, [], _∷_}
 use Prim.Native.Nat.{ℕ}
 use borrow.Author.Needs.{needs}
 use lib.IntN.{ℤ}
 use mir.Facts.{toZ-ofZ}
 use denote.Ref.{now}
-use Rattle.tile.specs.Width.{Answer}
 use Rattle.edge.specs.Edge.{edge}
 use Rattle.edge.specs.Code as Code
 use Rattle.vuzgari.proofs.vuzgari_edge_width.Statement.{statement}

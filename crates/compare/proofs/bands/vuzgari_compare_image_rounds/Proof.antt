@@ -1,5 +1,5 @@
 -- One field of what `image_variance` ensures. Assumes nothing.
-use mathlib.Core.Path.{sym, ap, _∙_}
+use mathlib.Core.Path.{ap}
 use Rattle.rounds.specs.declared.Settled.{Settled}
 use Rattle.compare.proofs.Ordered.{in-bands}
 use Rattle.compare.proofs.bands.vuzgari_compare_image_rounds.Statement.{statement}

@@ -1,5 +1,5 @@
 -- One field of what `noise_sigma` ensures. Assumes nothing.
-use mathlib.Core.Path.{sym, ap, _∙_}
+use mathlib.Core.Path.{ap}
 use Rattle.joining.specs.declared.Noise.{Noise}
 use Rattle.compare.proofs.Ordered.{in-bands}
 use Rattle.compare.proofs.bands.vuzgari_compare_noise_rounds.Statement.{statement}

@@ -1,6 +1,6 @@
 -- One field of what `variance` ensures. Assumes nothing.
 use borrow.Author.Needs.{needs}
-use mathlib.Core.Path.{sym, ap, _∙_}
+use mathlib.Core.Path.{ap}
 use Rattle.rounds.specs.declared.BandVariance.{BandVariance}
 use Rattle.compare.proofs.bands.vuzgari_compare_variance_rounds.Statement.{statement}
 use Rattle.compare.proofs.bands.vuzgari_compare_variance_rounds.Tie as tie

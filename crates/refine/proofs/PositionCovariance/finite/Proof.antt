@@ -2,7 +2,6 @@
 use mathlib.Core.Path.{sym, _∙_}
 use borrow.Author.Needs.{needs}
 use Rattle.laws.proofs.Choice.{chosen, passed}
-use Rattle.refine.specs.declared.Judged.the-variants.{Covariance, Refused}
 use Rattle.refine.proofs.PositionCovariance.finite.Statement.{statement}
 use Rattle.refine.proofs.PositionCovariance.finite.Tie as tie
 

@@ -1,16 +1,15 @@
 -- Each turn lays the next row of the tile.
 use mathlib.Core.Path.{_≡_, refl, sym, ap, _∙_, subst}
 use mathlib.Core.Logic.{⊎-elim}
-use mathlib.Core.List.{List}
-use Prim.Native.Nat.{ℕ, _+_, _-_, _*_, _≤_, _<_}
+use Prim.Native.Nat.{ℕ, _+_, _-_, _*_, _<_}
 use native.Mathlib.Omega.{arith}
 use borrow.Author.Needs.{needs}
 use lib.ListN.{length, getD}
-use lib.IntN.{ℤ, pos, natAbs}
+use lib.IntN.{pos}
 use denote.Ref.{now}
 use Rattle.laws.specs.Lists.{from}
-use Rattle.laws.proofs.Fill.{length-from, Rows, rows-start, rows-put}
-use Rattle.laws.proofs.Machine.{held, held-of}
+use Rattle.laws.proofs.Fill.{Rows, rows-start}
+use Rattle.laws.proofs.Machine.{held-of}
 use Rattle.tile.specs.Laid.{laid}
 use Rattle.tile.proofs.Loading.{near, run-is, places-held, size-held, row-laid, rowOf, no-columns, no-rows, within, tile-is}
 use Rattle.tile.proofs.PixelTile.load.Statement.{statement}
