@@ -27,7 +27,9 @@ slice-aggregate-gather : tie.Need-slice-aggregate-gather
 slice-aggregate-gather c = search needs
 
 gather-requires : tie.Need-gather-requires
-gather-requires c κs = let s = c .before .before in (s .pre .1, λ k h. omega (arith, inside s k h))
+gather-requires c κs =
+    let s = c .before .before in
+    (s .pre .1, λ k h. omega (arith, inside s k h))
 
 add-gather : tie.Need-add-gather
 add-gather c = omega (arith, first (c .before .before .before .before))
@@ -36,7 +38,9 @@ slice-aggregate-gather-2 : tie.Need-slice-aggregate-gather-2
 slice-aggregate-gather-2 c = search needs
 
 gather-requires-2 : tie.Need-gather-requires-2
-gather-requires-2 c κs = let s = c .before .before .before .before .before in (s .pre .1, λ k h. omega (arith, inside s k h))
+gather-requires-2 c κs =
+    let s = c .before .before .before .before .before in
+    (s .pre .1, λ k h. omega (arith, inside s k h))
 
 mul-gather : tie.Need-mul-gather
 mul-gather c = omega (arith, first (c .before .before .before .before .before .before .before))
@@ -48,7 +52,9 @@ slice-aggregate-gather-3 : tie.Need-slice-aggregate-gather-3
 slice-aggregate-gather-3 c = search needs
 
 gather-requires-3 : tie.Need-gather-requires-3
-gather-requires-3 c κs = let s = c .before .before .before .before .before .before .before .before in (s .pre .1, λ k h. omega (arith, inside s k h))
+gather-requires-3 c κs =
+    let s = c .before .before .before .before .before .before .before .before in
+    (s .pre .1, λ k h. omega (arith, inside s k h))
 
 mul-gather-2 : tie.Need-mul-gather-2
 mul-gather-2 c = omega (arith, first (c .before .before .before .before .before .before .before .before .before .before))
@@ -60,7 +66,9 @@ slice-aggregate-gather-4 : tie.Need-slice-aggregate-gather-4
 slice-aggregate-gather-4 c = search needs
 
 gather-requires-4 : tie.Need-gather-requires-4
-gather-requires-4 c κs = let s = c .before .before .before .before .before .before .before .before .before .before .before in (s .pre .1, λ k h. omega (arith, inside s k h))
+gather-requires-4 c κs =
+    let s = c .before .before .before .before .before .before .before .before .before .before .before in
+    (s .pre .1, λ k h. omega (arith, inside s k h))
 
 slice-aggregate-measure-words : tie.Need-slice-aggregate-measure-words
 slice-aggregate-measure-words c = search needs
@@ -86,8 +94,9 @@ returns c =
     let a = d .before .before .before .before .before .before .before .before .before in
     let s = a .before .before .before in
     filled-same
-    (figures (now (s .args .img)) (a .before .before .shared-slice-known .given) (s .args .w) (s .args .y) (s .args .x) (s .args .s) (s .args .n) (replicate 32 0)
-    (a .gather .ensures) (d .before .before .before .before .before .before .gather2 .ensures) (d .before .before .before .gather3 .ensures) (d .gather4 .ensures))
+    (figures (now (s .args .img)) (a .before .before .shared-slice-known .given) (s .args .w) (s .args .y) (s .args .x) (s .args .s) (s .args .n)
+    (replicate 32 0) (a .gather .ensures) (d .before .before .before .before .before .before .gather2 .ensures)
+    (d .before .before .before .gather3 .ensures) (d .gather4 .ensures))
     (c .before .measure-words .ensures)
 
 pub measure-some-spec : {M : Type 1} → statement M
