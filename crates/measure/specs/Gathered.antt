@@ -1,7 +1,7 @@
 -- The rows of several windows side by side, four pixels as one number.
 use mathlib.Core.List.{List, _++_}
 use Prim.Native.Nat.{ℕ, _+_, _*_, _≤_}
-use lib.ListN.{length, getD, drop, replicate}
+use lib.ListN.{length, getD, drop}
 use lib.IntN.{ℤ}
 use Rattle.laws.specs.Lists.{from}
 use Rattle.window.specs.Window.{ofRows, statsOf}
@@ -9,9 +9,9 @@ use Rattle.window.specs.declared.WindowStats.{WindowStats}
 use Rattle.window_stats.specs.Passes.{wordAt, rowsIn}
 use Rattle.measure.specs.Columns.{columnCount}
 
--- four pixels as one number from `at`, `at` + s, .. on, n times, then zeros up to 32 numbers
-unfoldable pub gathered : List ℕ → ℕ → ℕ → ℕ → List ℕ
-gathered img at s n = from (λ k. wordAt img (at + k * s)) 0 n ++ drop n (replicate 32 0)
+-- a list whose first n are four pixels as one number each, from `at`, `at` + s, .. on; the others are as they were
+unfoldable pub gathered : List ℕ → ℕ → ℕ → ℕ → List ℕ → List ℕ
+gathered img at s n old = from (λ k. wordAt img (at + k * s)) 0 n ++ drop n old
 
 -- the figures of window k, its rows being number k of each list
 abbrev pub figureOfWords : List ℕ → List ℕ → List ℕ → List ℕ → ℕ → WindowStats

@@ -21,18 +21,16 @@ fn put(ints: &mut [i32], t: usize, i: usize, f: WindowStats)
     ints[2 * t + i] = op;
 }
 
-// Four pixels as one number from img[at], img[at + s], .. on, n times.
-fn gather(img: &[u8], at: usize, s: usize, n: usize) -> [u32; 32]
-    requires { ⌜ (n ≤ 32) × ((k : ℕ) → k < n → at + k * s + 4 ≤ length (now img)) ⌝ }
-    ensures { λ r. ⌜ r ≡ gathered (now (img .entry)) at s n ⌝ }
+// Four pixels as one number from img[at], img[at + s], .. on, n times, to the front of words.
+fn gather(img: &[u8], at: usize, s: usize, n: usize, words: &mut [u32])
+    requires { ⌜ (n ≤ length (now words)) × ((k : ℕ) → k < n → at + k * s + 4 ≤ length (now img)) ⌝ }
+    ensures { λ _. ⌜ now (words .exit) ≡ gathered (now (img .entry)) at s n (now (words .entry)) ⌝ }
 {
-    let mut words = [0u32; 32];
     let mut k = 0;
     while k < n {
         words[k] = window_stats::word(img, at + k * s);
         k += 1;
     }
-    words
 }
 
 // The n windows whose rows stand in a, b, c and d, into the columns from place `to` on.
@@ -75,10 +73,14 @@ fn measure_some(
     ensures { λ _. ⌜ Filled t to n (figureOf (now (img .entry)) w y x s) (now (ints .entry)) (now (ints .exit)) ⌝ }
 {
     let at = y * w + x;
-    let a = gather(img, at, s, n);
-    let b = gather(img, at + w, s, n);
-    let c = gather(img, at + 2 * w, s, n);
-    let d = gather(img, at + 3 * w, s, n);
+    let mut a = [0u32; 32];
+    let mut b = [0u32; 32];
+    let mut c = [0u32; 32];
+    let mut d = [0u32; 32];
+    gather(img, at, s, n, &mut a);
+    gather(img, at + w, s, n, &mut b);
+    gather(img, at + 2 * w, s, n, &mut c);
+    gather(img, at + 3 * w, s, n, &mut d);
     measure_words(&a, &b, &c, &d, n, ints, t, to);
 }
 

@@ -1,7 +1,7 @@
--- `measure::gather` meets its contract: the front of an array of zeros is written.
-use Prim.Native.Nat.{_+_, _-_, _*_, _≤_}
+-- `measure::gather` meets its contract: the front of the slice is written.
+use Prim.Native.Nat.{_+_, _-_, _*_, _≤_, _<_}
 use native.Mathlib.Omega.{arith}
-use lib.ListN.{length, replicate}
+use lib.ListN.{length}
 use denote.Ref.{now}
 use Rattle.laws.proofs.Fill.{Front, front-start, front-put, front-end}
 use Rattle.window_stats.specs.Passes.{wordAt}
@@ -10,7 +10,7 @@ use Rattle.measure.proofs.gather.Statement.{statement}
 use Rattle.measure.proofs.gather.Tie as tie
 
 abbrev Inv-loop : tie.InvT-loop
-Inv-loop img at s n words₀ k₀ words k = Front (λ k. wordAt img (at + k * s)) (replicate 32 0) n k words
+Inv-loop img at s n words₀ k₀ words k = Front (λ k. wordAt img (at + k * s)) words₀ n k words
 
 abbrev μ-loop : tie.MeasureT-loop
 μ-loop img at s n words₀ k₀ words k = n - k
@@ -20,9 +20,12 @@ loop-holds c = front-start
 
 -- the pixels of window k lie inside the image
 inside : (c : tie.In-loop Inv-loop μ-loop)
-    → c .before .before .before .args .at + c .before .loop .k * c .before .before .before .args .s + 4
-    ≤ length (now (c .before .before .before .args .img))
-inside c = c .before .before .before .pre .1 (c .before .loop .k) (c .loop-test .taken)
+    → c .before .before .before .before .args .at + c .before .loop .k * c .before .before .before .before .args .s + 4
+    ≤ length (now (c .before .before .before .before .args .img))
+inside c = c .before .before .before .before .pre .1 (c .before .loop .k) (c .loop-test .taken)
+
+room : (c : tie.After-word Inv-loop μ-loop) → c .before .before .loop .k < length (c .before .before .loop .words)
+room c = omega (arith, c .before .before .before .before .before .pre .0, c .before .loop-test .taken, c .before .before .loop .inv .long)
 
 mul-word : tie.Need-mul-word Inv-loop μ-loop
 mul-word c = omega (arith, inside c)
@@ -34,20 +37,23 @@ word-requires : tie.Need-word-requires Inv-loop μ-loop
 word-requires c κs = inside c
 
 mul-words : tie.Need-mul-words Inv-loop μ-loop
-mul-words c = omega (arith, c .before .before .before .before .pre .0)
+mul-words c = omega (arith, room c)
 
-array-write-words : tie.Need-array-write-words Inv-loop μ-loop
-array-write-words c = omega (arith, c .before .before .before .before .pre .0, c .before .loop-test .taken)
+slice-write-words : tie.Need-slice-write-words Inv-loop μ-loop
+slice-write-words c = room c
 
 add-k : tie.Need-add-k Inv-loop μ-loop
-add-k c = omega (arith, c .before .before .before .before .pre .0)
+add-k c = omega (arith, c .before .loop-test .taken)
 
 loop-less : tie.Need-loop-less Inv-loop μ-loop
 loop-less c = omega (arith, c .before .loop-test .taken)
 
 loop-again : tie.Need-loop-again Inv-loop μ-loop
 loop-again c =
-    front-put (c .before .before .loop .inv) (c .before .loop-test .taken) (c .before .before .before .before .pre .0) (c .word .ensures)
+    front-put (c .before .before .loop .inv) (c .before .loop-test .taken) (c .before .before .before .before .before .pre .0) (c .word .ensures)
+
+same-length : tie.Need-same-length Inv-loop μ-loop
+same-length c = c .before .loop .inv .long
 
 returns : tie.Need-returns Inv-loop μ-loop
 unfolding gathered
@@ -64,8 +70,9 @@ gather-spec =
     add-word
     word-requires
     mul-words
-    array-write-words
+    slice-write-words
     add-k
     loop-less
     loop-again
+    same-length
     returns)

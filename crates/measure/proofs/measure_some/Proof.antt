@@ -2,7 +2,7 @@
 use Prim.Native.Nat.{ℕ, _+_, _*_, _≤_, _<_}
 use native.Mathlib.Omega.{arith}
 use borrow.Author.Needs.{needs}
-use lib.ListN.{length}
+use lib.ListN.{length, replicate}
 use denote.Ref.{now}
 use Rattle.measure.proofs.Gathered.{figures}
 use Rattle.measure.proofs.Filling.{filled-same}
@@ -23,32 +23,52 @@ mul-at c = omega (arith, first (c .before))
 add-at : tie.Need-add-at
 add-at c = omega (arith, first (c .before))
 
+slice-aggregate-gather : tie.Need-slice-aggregate-gather
+slice-aggregate-gather c = search needs
+
 gather-requires : tie.Need-gather-requires
-gather-requires c κs = (c .before .pre .1, λ k h. omega (arith, inside (c .before) k h))
+gather-requires c κs =
+    let s = c .before .before in
+    (s .pre .1, λ k h. omega (arith, inside s k h))
 
 add-gather : tie.Need-add-gather
-add-gather c = omega (arith, first (c .before .before))
+add-gather c = omega (arith, first (c .before .before .before .before))
+
+slice-aggregate-gather-2 : tie.Need-slice-aggregate-gather-2
+slice-aggregate-gather-2 c = search needs
 
 gather-requires-2 : tie.Need-gather-requires-2
-gather-requires-2 c κs = (c .before .before .pre .1, λ k h. omega (arith, inside (c .before .before) k h))
+gather-requires-2 c κs =
+    let s = c .before .before .before .before .before in
+    (s .pre .1, λ k h. omega (arith, inside s k h))
 
 mul-gather : tie.Need-mul-gather
-mul-gather c = omega (arith, first (c .before .before .before))
+mul-gather c = omega (arith, first (c .before .before .before .before .before .before .before))
 
 add-gather-2 : tie.Need-add-gather-2
-add-gather-2 c = omega (arith, first (c .before .before .before))
+add-gather-2 c = omega (arith, first (c .before .before .before .before .before .before .before))
+
+slice-aggregate-gather-3 : tie.Need-slice-aggregate-gather-3
+slice-aggregate-gather-3 c = search needs
 
 gather-requires-3 : tie.Need-gather-requires-3
-gather-requires-3 c κs = (c .before .before .before .pre .1, λ k h. omega (arith, inside (c .before .before .before) k h))
+gather-requires-3 c κs =
+    let s = c .before .before .before .before .before .before .before .before in
+    (s .pre .1, λ k h. omega (arith, inside s k h))
 
 mul-gather-2 : tie.Need-mul-gather-2
-mul-gather-2 c = omega (arith, first (c .before .before .before .before))
+mul-gather-2 c = omega (arith, first (c .before .before .before .before .before .before .before .before .before .before))
 
 add-gather-3 : tie.Need-add-gather-3
-add-gather-3 c = omega (arith, first (c .before .before .before .before))
+add-gather-3 c = omega (arith, first (c .before .before .before .before .before .before .before .before .before .before))
+
+slice-aggregate-gather-4 : tie.Need-slice-aggregate-gather-4
+slice-aggregate-gather-4 c = search needs
 
 gather-requires-4 : tie.Need-gather-requires-4
-gather-requires-4 c κs = (c .before .before .before .before .pre .1, λ k h. omega (arith, inside (c .before .before .before .before) k h))
+gather-requires-4 c κs =
+    let s = c .before .before .before .before .before .before .before .before .before .before .before in
+    (s .pre .1, λ k h. omega (arith, inside s k h))
 
 slice-aggregate-measure-words : tie.Need-slice-aggregate-measure-words
 slice-aggregate-measure-words c = search needs
@@ -70,12 +90,13 @@ same-length c = search needs
 
 returns : tie.Need-returns
 returns c =
-    let g = c .before .before .before .before .before .before .before in
-    let e = g .before .before .before in
-    let a = e .before .before .args in
+    let d = c .before .before .before .before .before .before .before .before in
+    let a = d .before .before .before .before .before .before .before .before .before in
+    let s = a .before .before .before in
     filled-same
-    (figures (now (a .img)) (e .before .shared-slice-known .given) (a .w) (a .y) (a .x) (a .s) (a .n)
-    (e .gather .ensures) (g .before .before .gather2 .ensures) (g .before .gather3 .ensures) (g .gather4 .ensures))
+    (figures (now (s .args .img)) (a .before .before .shared-slice-known .given) (s .args .w) (s .args .y) (s .args .x) (s .args .s) (s .args .n)
+    (replicate 32 0) (a .gather .ensures) (d .before .before .before .before .before .before .gather2 .ensures)
+    (d .before .before .before .gather3 .ensures) (d .gather4 .ensures))
     (c .before .measure-words .ensures)
 
 pub measure-some-spec : {M : Type 1} → statement M
@@ -84,14 +105,18 @@ measure-some-spec =
     (tie.spec
     mul-at
     add-at
+    slice-aggregate-gather
     gather-requires
     add-gather
+    slice-aggregate-gather-2
     gather-requires-2
     mul-gather
     add-gather-2
+    slice-aggregate-gather-3
     gather-requires-3
     mul-gather-2
     add-gather-3
+    slice-aggregate-gather-4
     gather-requires-4
     slice-aggregate-measure-words
     slice-aggregate-measure-words-2

@@ -32,31 +32,41 @@ mul-packed : tie.Need-mul-packed Inv-loop μ-loop
 mul-packed c = omega (arith, c .before .before .before .before .before .before .pre .first, c .loop-test .taken)
 
 shared-slice-read-packed : tie.Need-shared-slice-read-packed Inv-loop μ-loop
-shared-slice-read-packed c = let h = c .before in omega (arith, h .before .before .before .before .before .before .pre .first, h .loop-test .taken)
+shared-slice-read-packed c =
+    let h = c .before in
+    omega (arith, h .before .before .before .before .before .before .pre .first, h .loop-test .taken)
 
 mul-packed-2 : tie.Need-mul-packed-2 Inv-loop μ-loop
 mul-packed-2 c = mul-packed (c .before)
 
 shared-slice-read-packed-2 : tie.Need-shared-slice-read-packed-2 Inv-loop μ-loop
-shared-slice-read-packed-2 c = let h = c .before .before in omega (arith, h .before .before .before .before .before .before .pre .second, h .loop-test .taken)
+shared-slice-read-packed-2 c =
+    let h = c .before .before in
+    omega (arith, h .before .before .before .before .before .before .pre .second, h .loop-test .taken)
 
 mul-packed-3 : tie.Need-mul-packed-3 Inv-loop μ-loop
 mul-packed-3 c = mul-packed (c .before .before)
 
 shared-slice-read-packed-3 : tie.Need-shared-slice-read-packed-3 Inv-loop μ-loop
-shared-slice-read-packed-3 c = let h = c .before .before .before in omega (arith, h .before .before .before .before .before .before .pre .third, h .loop-test .taken)
+shared-slice-read-packed-3 c =
+    let h = c .before .before .before in
+    omega (arith, h .before .before .before .before .before .before .pre .third, h .loop-test .taken)
 
 mul-packed-4 : tie.Need-mul-packed-4 Inv-loop μ-loop
 mul-packed-4 c = mul-packed (c .before .before .before)
 
 shared-slice-read-packed-4 : tie.Need-shared-slice-read-packed-4 Inv-loop μ-loop
-shared-slice-read-packed-4 c = let h = c .before .before .before .before in omega (arith, h .before .before .before .before .before .before .pre .fourth, h .loop-test .taken)
+shared-slice-read-packed-4 c =
+    let h = c .before .before .before .before in
+    omega (arith, h .before .before .before .before .before .before .pre .fourth, h .loop-test .taken)
 
 packed-requires : tie.Need-packed-requires Inv-loop μ-loop
 packed-requires c κs = tt
 
 add-put : tie.Need-add-put Inv-loop μ-loop
-add-put c = let h = c .before .before .before .before .before .before in omega (arith, h .before .before .before .before .before .before .pre .room, h .loop-test .taken)
+add-put c =
+    let h = c .before .before .before .before .before .before in
+    omega (arith, h .before .before .before .before .before .before .pre .room, h .loop-test .taken)
 
 put-requires : tie.Need-put-requires Inv-loop μ-loop
 put-requires c κs =
