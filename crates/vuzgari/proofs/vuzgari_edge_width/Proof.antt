@@ -11,8 +11,9 @@ use Rattle.edge.specs.Code as Code
 use Rattle.vuzgari.proofs.vuzgari_edge_width.Statement.{statement}
 use Rattle.vuzgari.proofs.vuzgari_edge_width.Tie as tie
 
-same : (l : List ℕ) (w h : ℕ) {a b c d a′ b′ c′ d′ : ℤ} → a ≡ a′ → b ≡ b′ → c ≡ c′ → d ≡ d′ → edge l w h (a ∷ b ∷ []) (c ∷ d ∷ []) ≡ edge l w h (a′ ∷ b′ ∷ []) (c′ ∷ d′ ∷ [])
-same l w h p q r s = λ i. edge l w h (p i ∷ q i ∷ []) (r i ∷ s i ∷ [])
+same : (l : List ℕ) (w h : ℕ) {a b c d a′ b′ c′ d′ : ℤ} {r : Answer} → a ≡ a′ → b ≡ b′ → c ≡ c′ → d ≡ d′
+    → r ≡ edge l w h (a ∷ b ∷ []) (c ∷ d ∷ []) → r ≡ edge l w h (a′ ∷ b′ ∷ []) (c′ ∷ d′ ∷ [])
+same l w h p q r s e = e ∙ (λ i. edge l w h (p i ∷ q i ∷ []) (r i ∷ s i ∷ []))
 
 edge-width-requires : tie.Need-edge-width-requires
 edge-width-requires c κs = search needs
@@ -24,7 +25,8 @@ returns : tie.Need-returns
 returns c =
     let s = c .before .before .before in
     c .code .ensures
-    ∙ ap Code.code (c .before .edge-width .ensures ∙ same (now (s .args .pixels)) (s .args .width) (s .args .height) (toZ-ofZ (s .fits .ox)) (toZ-ofZ (s .fits .oy)) (toZ-ofZ (s .fits .cx)) (toZ-ofZ (s .fits .cy)))
+    ∙ ap Code.code (same (now (s .args .pixels)) (s .args .width) (s .args .height)
+    (toZ-ofZ (s .fits .ox)) (toZ-ofZ (s .fits .oy)) (toZ-ofZ (s .fits .cx)) (toZ-ofZ (s .fits .cy)) (c .before .edge-width .ensures))
 
 pub vuzgari-edge-width-spec : {M : Type 1} → statement M
 vuzgari-edge-width-spec = tie.close (tie.spec edge-width-requires code-requires returns)
