@@ -42,15 +42,18 @@ module _ {N : ℕ} {f : Float → Total} {start var : Float} {prev r : ℕ} (i :
   abbrev settles : Settled
   settles = cond (near (k .n) prev (next k) var) (settledAt (k .n) (next k) (r + 1)) later
 
+  round-is : cond (eqb (k .n) 0) (settledAt 0 var (r + 1)) settles ≡ round k var prev r later
+  round-is = refl
+
   pub turning-none : k .n ≡ 0 → settledAt 0 var (r + 1) ≡ rounds f N start noCount 0
-  turning-none z = chosen (eqb (k .n) 0) (settledAt 0 var (r + 1)) settles (eq-eqb (k .n) 0 z) ∙ this-round
+  turning-none z = chosen (eqb (k .n) 0) (settledAt 0 var (r + 1)) settles (eq-eqb (k .n) 0 z) ∙ round-is ∙ this-round
 
   module _ (z : k .n ≡ 0 → ⊥) {new : Float} (q : new ≡ next k) {b : Bool} (w : b ≡ near (k .n) prev new var) where
     decided : cond b (settledAt (k .n) new (r + 1)) (rounds f (N - (r + 1)) new (k .n) (r + 1)) ≡ rounds f N start noCount 0
     decided =
         ap (λ (x : Bool). cond x (settledAt (k .n) new (r + 1)) (rounds f (N - (r + 1)) new (k .n) (r + 1))) w
         ∙ ap (λ (x : Float). cond (near (k .n) prev x var) (settledAt (k .n) x (r + 1)) (rounds f (N - (r + 1)) x (k .n) (r + 1))) q
-        ∙ passed (eqb (k .n) 0) (settledAt 0 var (r + 1)) settles (ne-eqb (k .n) 0 z) ∙ this-round
+        ∙ passed (eqb (k .n) 0) (settledAt 0 var (r + 1)) settles (ne-eqb (k .n) 0 z) ∙ round-is ∙ this-round
 
     pub turning-near : b ≡ true → settledAt (k .n) new (r + 1) ≡ rounds f N start noCount 0
     turning-near t = chosen b (settledAt (k .n) new (r + 1)) (rounds f (N - (r + 1)) new (k .n) (r + 1)) t ∙ decided
