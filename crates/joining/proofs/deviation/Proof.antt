@@ -1,5 +1,5 @@
 -- `deviation` meets its contract: it is its definition, operation by operation. Assumes nothing.
-use mathlib.Core.Path.{_∙_, ap}
+use mathlib.Core.Path.{_≡_, _∙_, ap}
 use lib.Ieee.{Float, binary32, binary64, div}
 use borrow.Author.Needs.{needs}
 use Rattle.ieee.specs.Convert.{convert}
@@ -8,6 +8,10 @@ use Rattle.joining.specs.Numbers.{gain}
 use Rattle.joining.specs.Joining.{deviation}
 use Rattle.joining.proofs.deviation.Statement.{statement}
 use Rattle.joining.proofs.deviation.Tie as tie
+
+-- the root over the gain, rounded
+rounded : {x y r : Float} → r ≡ convert binary32 (div binary64 x gain) → x ≡ y → r ≡ convert binary32 (div binary64 y gain)
+rounded e f = e ∙ ap (λ (z : Float). convert binary32 (div binary64 z gain)) f
 
 whole-requires : tie.Need-whole-requires
 whole-requires c κs = search needs
@@ -21,9 +25,8 @@ to-f32-requires c κs = search needs
 returns : tie.Need-returns
 unfolding deviation
 returns c =
-    c .to-f32 .ensures
-    ∙ ap (λ (x : Float). convert binary32 (div binary64 x gain)) (c .before .sqrt64 .ensures
-    ∙ ap (λ (x : Float). sqrt binary64 (div binary64 (c .before .before .before .before .args .k .sum) x)) (c .before .before .before .whole .ensures))
+    rounded (c .to-f32 .ensures)
+    (c .before .sqrt64 .ensures ∙ ap (λ (x : Float). sqrt binary64 (div binary64 (c .before .before .before .before .args .k .sum) x)) (c .before .before .before .whole .ensures))
 
 pub deviation-spec : {M : Type 1} → statement M
 deviation-spec = tie.close (tie.spec whole-requires sqrt64-requires to-f32-requires returns)
