@@ -13,7 +13,8 @@ use Rattle.disk.specs.Smoothing.{down, across, smoothed}
 use Rattle.disk.specs.Disk.{disk}
 use Rattle.disk.specs.Gradients.{values, squares, squaredAt, gradients}
 use Rattle.disk.proofs.Table.{every, each}
-use Rattle.levels.proofs.Folds.{map-same, getD-from}
+use Rattle.laws.proofs.Fill.{getD-from}
+use Rattle.levels.proofs.Folds.{map-same}
 use Rattle.disk.proofs.Rows.{right, left, below, above, five}
 
 pub disk-long : length disk ≡ 81

@@ -17,7 +17,7 @@ use Rattle.disk.specs.Rows.{inRows, read}
 use Rattle.disk.specs.Smoothing.{smoothed}
 use Rattle.tile.specs.Tile.{tile}
 use Rattle.tile.specs.Width.{number, edgeOf}
-use Rattle.levels.proofs.Folds.{getD-from}
+use Rattle.laws.proofs.Fill.{getD-from}
 use Rattle.disk.proofs.Places.{read-rows, smooth-same}
 use Rattle.tile.proofs.Edges.{edge-same}
 use Rattle.edge.specs.Edge.{measured, edge}

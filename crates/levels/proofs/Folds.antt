@@ -85,18 +85,3 @@ module _ {A B : Type 0} where
       none i h = omega arith
   getD-map f a b (x ∷ l) zero h = refl
   getD-map f a b (x ∷ l) (suc i) h = getD-map f a b l i (omega arith)
-
-module _ {A : Type 0} where
-  pub getD-from : (f : ℕ → A) (d : A) (n k i : ℕ) → i < n → getD (from f k n) i d ≡ f (k + i)
-  getD-from f d zero k i h = absurd (none i h)
-    where
-      none : (i : ℕ) → i < 0 → ⊥
-      none i h = omega arith
-  getD-from f d (suc n) k zero h = ap f (go k)
-    where
-      go : (k : ℕ) → k ≡ k + 0
-      go k = omega arith
-  getD-from f d (suc n) k (suc i) h = getD-from f d n (suc k) i (omega arith) ∙ ap f (go k i)
-    where
-      go : (k i : ℕ) → suc k + i ≡ k + suc i
-      go k i = omega arith

@@ -7,13 +7,12 @@ use lib.ListN.{getD, drop, List·getD-append}
 use mir.Syntax.{w8}
 use mir.Val.{Fits}
 use Rattle.laws.specs.Lists.{from}
-use Rattle.laws.proofs.Fill.{length-from}
+use Rattle.laws.proofs.Fill.{length-from, getD-from}
 use Rattle.window.specs.Window.{statsOf, pixelsAt}
 use Rattle.window_stats.specs.Passes.{wordAt}
 use Rattle.window_stats.proofs.Words.{words-stats, packed-same}
 use Rattle.measure.specs.Figures.{figureOf}
 use Rattle.measure.specs.Gathered.{gathered, figureOfWords}
-use Rattle.measure.proofs.Rows.{from-at}
 
 module _ (img : List ℕ) where
   word-at : (at s n : ℕ) (old : List ℕ) (k : ℕ) → k < n → getD (gathered img at s n old) k 0 ≡ wordAt img (at + k * s)
@@ -21,7 +20,7 @@ module _ (img : List ℕ) where
   word-at at s n old k h =
       let word : ℕ → ℕ = λ k. wordAt img (at + k * s) in
       List·getD-append (from word 0 n) (drop n old) 0 k (omega (arith, length-from word 0 n))
-      ∙ from-at word 0 0 n k h ∙ ap word (same k)
+      ∙ getD-from word 0 n 0 k h ∙ ap word (same k)
     where
       same : (a : ℕ) → 0 + a ≡ a
       same a = omega arith

@@ -3,7 +3,6 @@ use mathlib.Core.Path.{_≡_, refl, sym, ap, _∙_}
 use mathlib.Core.List.{List, [], _∷_, _++_, map}
 use Prim.Native.Nat.{ℕ, zero, suc, _+_, _≤_, _<_}
 use native.Mathlib.Omega.{arith}
-use lib.ListN.{getD}
 use Rattle.laws.specs.Lists.{from, joined}
 
 module _ {A : Type 0} where
@@ -23,21 +22,6 @@ module _ {A : Type 0} where
 
   pub from-same : (f g : ℕ → A) (k n : ℕ) → ((i : ℕ) → k ≤ i → i < k + n → f i ≡ g i) → from f k n ≡ from g k n
   from-same f g k n e = from-alike f g k k n (λ i h. e (k + i) (omega arith) (omega arith))
-
-  -- element i
-  pub from-at : (f : ℕ → A) (d : A) (k n i : ℕ) → i < n → getD (from f k n) i d ≡ f (k + i)
-  from-at f d k zero i h = absurd (none i h)
-    where
-      none : (i : ℕ) → i < zero → ⊥
-      none i h = omega arith
-  from-at f d k (suc n) zero h = ap f (first k)
-    where
-      first : (a : ℕ) → a ≡ a + zero
-      first a = omega arith
-  from-at f d k (suc n) (suc i) h = from-at f d (suc k) n i (omega arith) ∙ ap f (over k i)
-    where
-      over : (a b : ℕ) → suc a + b ≡ a + suc b
-      over a b = omega arith
 
   -- the first a of them, then b more
   pub from-split : (f : ℕ → A) (k a b : ℕ) → from f k (a + b) ≡ from f k a ++ from f (k + a) b

@@ -8,14 +8,13 @@ use lib.ListN.{length, getD, replicate, drop-of-length-le}
 use lib.IntN.{ℤ, pos, negsuc, sucℤ, natAbs, _+ℤ_, _-ℤ_, sucℤ-+ℤ, +ℤ-idl}
 use lib.Ieee.{Float, binary32, ofBits}
 use Rattle.laws.specs.Lists.{from, joined}
-use Rattle.laws.proofs.Fill.{length-from, Rows, rows-put, rows-end}
+use Rattle.laws.proofs.Fill.{length-from, getD-from, Rows, rows-put, rows-end}
 use Rattle.laws.proofs.Ring.{ring, v, k as lit, _⊕_, _⊖_}
 use Rattle.laws.proofs.Machine.{held}
 use Rattle.imageview.specs.Sample.{clamped, pixel}
 use Rattle.imageview.proofs.Nearest.{clamped-most, in-image}
 use Rattle.levels.specs.Whole.{whole}
 use Rattle.levels.proofs.Constants.{zero-is}
-use Rattle.levels.proofs.Folds.{getD-from}
 use Rattle.disk.specs.Rows.{inRows}
 use Rattle.tile.specs.Tile.{tile}
 use Rattle.tile.specs.Laid.{laid, picked, run}

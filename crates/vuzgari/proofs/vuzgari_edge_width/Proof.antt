@@ -6,6 +6,7 @@ use borrow.Author.Needs.{needs}
 use lib.IntN.{ℤ}
 use mir.Facts.{toZ-ofZ}
 use denote.Ref.{now}
+use Rattle.tile.specs.Width.{Answer}
 use Rattle.edge.specs.Edge.{edge}
 use Rattle.edge.specs.Code as Code
 use Rattle.vuzgari.proofs.vuzgari_edge_width.Statement.{statement}
