@@ -114,7 +114,7 @@ pub fn sqrt64(x: f64) -> f64
     f64::from_bits((h + 485) * 0x10_0000_0000_0000 + root(m, 53))
 }
 
-// f32::sqrt, as sqrt64 of x as an f64, with 24 digits. 1, the factor of a noise that doesn't grow, is its own root.
+// f32::sqrt, as sqrt64 of x as an f64, with 24 digits.
 pub fn sqrt32(x: f32) -> f32
     ensures { λ r. ⌜ r ≡ sqrt binary32 x ⌝ }
 {
@@ -129,9 +129,6 @@ pub fn sqrt32(x: f32) -> f32
     }
     let b = f64::to_bits(x as f64);
     if b >= 0x7ff0_0000_0000_0000 {
-        return x;
-    }
-    if b == 0x3ff0_0000_0000_0000 {
         return x;
     }
     let v = scaled(b);

@@ -1,5 +1,5 @@
 -- The tests leave an x above zero (`AboveZero`), and the pattern of its root is made of the digits and of half the exponent (`SqrtPatterns`). An f32 as an f64 has few digits (`Widened`).
-use mathlib.Core.Path.{_≡_, refl, sym, ap, _∙_, subst}
+use mathlib.Core.Path.{_≡_, sym, ap, _∙_, subst}
 use mathlib.Core.Logic.{⊎-elim}
 use mathlib.Core.Bool.{not, false}
 use Prim.Native.Nat.{ℕ, _+_, _-_, _*_, _/_, _%_, _^_, _≤_, _<_}
@@ -7,8 +7,7 @@ use lib.Dec.{T}
 use native.Mathlib.Omega.{arith}
 use lib.Ieee.Fits.{fits-widens, and-i}
 use Rattle.ieee.proofs.Widened.{Widened, widened}
-use lib.IntN.{pos}
-use lib.Ieee.{Float, fin, binary32, binary64, fits, isNan, toBits, ofBits, units, size}
+use lib.Ieee.{Float, binary32, binary64, fits, isNan, toBits}
 use lib.Ieee.Bits.{ofBits-toBits}
 use lib.Ieee.Exact.{HasValue}
 use Rattle.roots.specs.Scaled.{IsScaled}
@@ -18,14 +17,6 @@ use Rattle.ieee.proofs.AboveZero.{above, above-zero, above-plain, above-some, s
 use Rattle.ieee.proofs.SqrtPatterns.{m-hi, exact32, sqrt32-pattern, doubled, plain}
 use Rattle.roots.proofs.sqrt32.Statement.{statement}
 use Rattle.roots.proofs.sqrt32.Tie as tie
-
-sqrt-one : fin false 1 (pos 0) ≡ sqrt binary32 (fin false 1 (pos 0))
-unfolding sqrt units size
-sqrt-one = refl
-
-bits-one : ofBits binary64 0x3ff0_0000_0000_0000 ≡ fin false 1 (pos 0)
-unfolding ofBits
-bits-one = refl
 
 abbrev x : tie.Else3 → Float
 x c = c .before .before .before .args .x
@@ -39,12 +30,6 @@ wide c = fits-widens (x c) (held c)
 
 left : (c : tie.Else3) → T (above (x c))
 left c = above-zero binary32 (x c) (c .before .before .if1 .left) (c .before .if2 .left) (c .if3 .left)
-
-own-root : (x : Float) → T (fits binary64 x) → toBits binary64 x ≡ 0x3ff0_0000_0000_0000 → x ≡ sqrt binary32 x
-own-root x F e = one-is ∙ sqrt-one ∙ sym (ap (sqrt binary32) one-is)
-  where
-    one-is : x ≡ fin false 1 (pos 0)
-    one-is = sym (ofBits-toBits binary64 x F) ∙ ap (ofBits binary64) e ∙ bits-one
 
 returns : tie.Need-returns
 returns c = sqrt-nan binary32 (c .before .args .x) (c .if1 .taken)
@@ -64,35 +49,32 @@ float-to-bits-b c = above-plain (x (c .before)) (left (c .before))
 returns-4 : tie.Need-returns-4
 returns-4 c = sqrt-top (x (c .before .before)) (wide (c .before .before)) (left (c .before .before)) binary32 (c .if4 .taken)
 
-returns-5 : tie.Need-returns-5
-returns-5 c = let d = c .before .before .before in own-root (x d) (wide d) (c .if5 .taken)
-
 scaled-requires : tie.Need-scaled-requires
-scaled-requires c κs = let d = c .before .before .before in (above-some (x d) (wide d) (left d), c .before .if4 .left)
+scaled-requires c κs = let d = c .before .before in (above-some (x d) (wide d) (left d), c .if4 .left)
 
 mul-m : tie.Need-mul-m
 mul-m c = omega arith
 
 -- ---- after the branch: m is digits * 2 ^ (e % 2)
-abbrev start : tie.Joined6 → tie.Else3
-start c = c .before .before .before .before .before .before .before
+abbrev start : tie.Joined5 → tie.Else3
+start c = c .before .before .before .before .before .before
 
-abbrev digits : tie.Joined6 → ℕ
+abbrev digits : tie.Joined5 → ℕ
 digits c = c .before .before .before .scaled .result .digits
 
-abbrev e : tie.Joined6 → ℕ
+abbrev e : tie.Joined5 → ℕ
 e c = c .before .before .before .scaled .result .e
 
-scaled : (c : tie.Joined6) → IsScaled (toBits binary64 (x (start c))) (digits c) (e c)
+scaled : (c : tie.Joined5) → IsScaled (toBits binary64 (x (start c))) (digits c) (e c)
 scaled c = c .before .before .before .scaled .ensures
 
-m-is : (c : tie.Joined6) → c .if6 .m ≡ digits c * 2 ^ (e c % 2)
-m-is c = ⊎-elim (λ w. w .2 ∙ doubled (digits c) (e c) (w .0 .taken)) (λ w. w .1 ∙ plain (digits c) (e c) (w .0 .left)) (c .if6 .came)
+m-is : (c : tie.Joined5) → c .if5 .m ≡ digits c * 2 ^ (e c % 2)
+m-is c = ⊎-elim (λ w. w .2 ∙ doubled (digits c) (e c) (w .0 .taken)) (λ w. w .1 ∙ plain (digits c) (e c) (w .0 .left)) (c .if5 .came)
 
-value : (c : tie.Joined6) → HasValue (x (start c)) false (digits c * 2 ^ e c) (2 ^ 1126)
+value : (c : tie.Joined5) → HasValue (x (start c)) false (digits c * 2 ^ e c) (2 ^ 1126)
 value c = subst (λ (v : Float). HasValue v false (digits c * 2 ^ e c) (2 ^ 1126)) (ofBits-toBits binary64 (x (start c)) (wide (start c))) (scaled c .value)
 
-brief : (c : tie.Joined6) → Widened (digits c) (e c)
+brief : (c : tie.Joined5) → Widened (digits c) (e c)
 brief c = widened (x (start c)) (digits c) (e c) (held (start c)) (scaled c .lo) (scaled c .hi) (value c)
 
 sub-result : tie.Need-sub-result
@@ -129,8 +111,8 @@ cast-result c = record { fits = result c .wide }
 float-from-bits-result : tie.Need-float-from-bits-result
 float-from-bits-result c = result c .plain
 
-returns-6 : tie.Need-returns-6
-returns-6 c = result c .back
+returns-5 : tie.Need-returns-5
+returns-5 c = result c .back
 
 pub sqrt32-spec : {M : Type 1} → statement M
 sqrt32-spec =
@@ -142,7 +124,6 @@ sqrt32-spec =
     float-to-float-b
     float-to-bits-b
     returns-4
-    returns-5
     scaled-requires
     mul-m
     sub-result
@@ -152,4 +133,4 @@ sqrt32-spec =
     add-result
     cast-result
     float-from-bits-result
-    returns-6)
+    returns-5)
