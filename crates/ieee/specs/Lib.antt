@@ -4,3 +4,4 @@ pub mod Sqrt
 pub mod Order
 pub mod Floor
 pub mod Rounding
+pub mod Numbers
