@@ -3,9 +3,13 @@ use mathlib.Core.Path.{_≡_, sym, ap, _∙_}
 use mathlib.Core.List.{List}
 use Prim.Native.Nat.{ℕ, _+_, _-_, _≤_}
 use native.Mathlib.Omega.{arith}
-use lib.ListN.{drop}
+use lib.ListN.{length, drop}
 use lib.Seq.{drop-drop}
-use Rattle.pass.specs.Memory.{Beyond}
+
+-- from place n on a slice is as it was
+pub record Beyond {A : Type 0} (n : ℕ) (old new : List A) : Type 0 where
+  pub same : drop n new ≡ drop n old
+  pub long : length new ≡ length old
 
 module _ {A : Type 0} {n : ℕ} {old new : List A} where
   pub beyond-more : (m : ℕ) → n ≤ m → Beyond n old new → Beyond m old new

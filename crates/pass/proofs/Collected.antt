@@ -18,9 +18,10 @@ use Rattle.sample.proofs.Parts.{gates-first, squares-next}
 use Rattle.joining.specs.Joining.{noise}
 use Rattle.joining.specs.declared.Noise.{Noise}
 use Rattle.pass.specs.declared.Pass.{Pass}
-use Rattle.pass.specs.Memory.{intsFor, floatsFor, Beyond}
-use Rattle.pass.specs.Pass.{keptBy, startsBy, noiseIn, packed, passOf, Room}
-use Rattle.pass.proofs.Beyonds.{beyond-more}
+use Rattle.pass.specs.Memory.{intsFor, floatsFor}
+use Rattle.pass.specs.Pass.{keptBy, startsBy, noiseIn, packed, passOf}
+use Rattle.pass.specs.Steps.{gatesIn, squaresIn, Room}
+use Rattle.pass.proofs.Beyonds.{Beyond, beyond-more}
 
 module _ (fs : List WindowStats) (t : ℕ) (all : length fs ≡ t) where
   -- ---- the i32 slice
@@ -80,7 +81,7 @@ module _ (fs : List WindowStats) (t : ℕ) (all : length fs ≡ t) where
       pub roomy : Room s new
       roomy = omega (arith, kept-is, few)
 
-      pub noise-found : (n : Noise) → n ≡ noise (take (keptBy s) new) (take (keptBy s) (drop (keptBy s + 1) new)) (startsBy s) → n ≡ noiseIn fs
+      pub noise-found : (n : Noise) → n ≡ noise (gatesIn s new) (squaresIn s new) (startsBy s) → n ≡ noiseIn fs
       noise-found n e =
           e ∙ ap (λ (i : ℕ). noise (take i new) (take i (drop (i + 1) new)) (startsBy s)) kept-is
           ∙ ap (λ (l : List Float). noise (take k l) (take k (drop (k + 1) l)) (startsBy s)) laid

@@ -1,8 +1,6 @@
 -- One pass, from the figures of its windows alone: document 01, "Bands", "Rounds" and "Joining".
 use mathlib.Core.List.{List, [], _∷_}
-use Prim.Native.Nat.{ℕ, _+_, _*_, _^_, _≤_, _<_}
-use lib.ListN.{length}
-use lib.Ieee.{Float}
+use Prim.Native.Nat.{ℕ, _+_}
 use Rattle.window.specs.declared.WindowStats.{WindowStats}
 use Rattle.band.specs.Bands.{sampleOf}
 use Rattle.sample.specs.Laid.{gatesOf, squaresOf}
@@ -40,18 +38,3 @@ packed s n =
 -- what a pass finds
 unfoldable pub passOf : List WindowStats → Pass
 passOf fs = packed (sampleOf fs) (noiseIn fs)
-
--- ---- what the code's steps ask for
-
--- numbers of 32 bits
-pub record Small (s : Sample) (n : Noise) : Type 0 where
-  pub b0 : s .b0 < 2 ^ 32
-  pub b1 : s .b1 < 2 ^ 32
-  pub b2 : s .b2 < 2 ^ 32
-  pub b3 : s .b3 < 2 ^ 32
-  pub rail : s .rail < 2 ^ 32
-  pub rounds : n .rounds < 2 ^ 32
-
--- the gates, one spare place and the squared outputs
-abbrev pub Room : Sample → List Float → Type 0
-Room s floats = 2 * keptBy s + 1 ≤ length floats
