@@ -1,11 +1,14 @@
 -- One pass, from the figures of its windows alone: document 01, "Bands", "Rounds" and "Joining".
 use mathlib.Core.List.{List, [], _∷_}
 use Prim.Native.Nat.{ℕ, _+_}
+use lib.ListN.{length}
 use Rattle.window.specs.declared.WindowStats.{WindowStats}
 use Rattle.band.specs.Bands.{sampleOf}
 use Rattle.sample.specs.Laid.{gatesOf, squaresOf}
 use Rattle.band.specs.declared.Sample.{Sample}
-use Rattle.joining.specs.Joining.{noise, numberOf, figureOf}
+use Rattle.rounds.specs.Rounds.{imageVariance}
+use Rattle.rounds.specs.declared.Found.{Found}
+use Rattle.joining.specs.Joining.{variances, joined, founds, noise, numberOf, figureOf}
 use Rattle.joining.specs.declared.Noise.{Noise}
 use Rattle.pass.specs.declared.Pass.{Pass}
 
@@ -38,3 +41,17 @@ packed s n =
 -- what a pass finds
 unfoldable pub passOf : List WindowStats → Pass
 passOf fs = packed (sampleOf fs) (noiseIn fs)
+
+-- ---- what its number rests on
+
+-- the variances that its bands have or lack
+abbrev pub foundsIn : List WindowStats → List Found
+foundsIn fs =
+    founds (gatesOf fs) (squaresOf fs) (startsBy (sampleOf fs)) (imageVariance (gatesOf fs) (squaresOf fs) (startsBy (sampleOf fs)) .var)
+
+-- how many bands have one, and how many windows those that are joined hold
+abbrev pub foundBy : List WindowStats → ℕ
+foundBy fs = length (variances (foundsIn fs))
+
+abbrev pub heldBy : List WindowStats → ℕ
+heldBy fs = joined (foundsIn fs) .n
