@@ -72,10 +72,29 @@ one-of {kept} {found} {held} {n} e P p0 p5 p6 p7 = elim (le-or-lt 512 kept) [
 pub measured-ran : (img : List ℕ) (w h : ℕ) → ran (measured img w h .number) ≡ true
 measured-ran img w h = one-of (measured-ends img w h .exactly) (λ n. ran n ≡ true) refl refl refl refl
 
+pub ran-is : (n : ℕ) → (n ≡ 0) ⊎ (5 ≤ n) × (n ≤ 7) → ran n ≡ true
+ran-is n (inl e) = ap ran e
+ran-is n (inr e) = elim (le-or-lt 6 n) [
+  | inr a ↦ ap ran (five n (e .0) a)
+  | inl a ↦ elim (le-or-lt 7 n) [
+      | inr b ↦ ap ran (six n a b)
+      | inl b ↦ ap ran (seven n (e .1) b)
+    ]
+]
+  where
+    five : (n : ℕ) → 5 ≤ n → n < 6 → n ≡ 5
+    five n a b = omega arith
+
+    six : (n : ℕ) → 6 ≤ n → n < 7 → n ≡ 6
+    six n a b = omega arith
+
+    seven : (n : ℕ) → n ≤ 7 → 7 ≤ n → n ≡ 7
+    seven n a b = omega arith
+
 -- ---- a refusal
 
-not-ran : (n : ℕ) → (n ≡ 0 → ⊥) → n ≤ 4 → ran n ≡ false
-not-ran n z h = rw (ne-eqb n 0 z, ne-eqb n 5 (λ e. omega arith), ne-eqb n 6 (λ e. omega arith), ne-eqb n 7 (λ e. omega arith))
+pub ran-not : (n : ℕ) → (n ≡ 0 → ⊥) → n ≤ 4 → ran n ≡ false
+ran-not n z h = rw (ne-eqb n 0 z, ne-eqb n 5 (λ e. omega arith), ne-eqb n 6 (λ e. omega arith), ne-eqb n 7 (λ e. omega arith))
 
 pub refusal-stays : (pixels w h : ℕ) (short : Bool) → (refusalOf pixels w h short ≡ 0 → ⊥) → ran (refusalOf pixels w h short) ≡ false
-refusal-stays pixels w h short n = not-ran (refusalOf pixels w h short) n (refusal-most pixels w h short)
+refusal-stays pixels w h short n = ran-not (refusalOf pixels w h short) n (refusal-most pixels w h short)

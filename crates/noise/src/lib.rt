@@ -139,9 +139,9 @@ pub fn estimate_noise_sigma_u8(
         × (now (ints .exit) ≡ leftInts (r .number) w h (now (ints .entry)))
         × (now (floats .exit) ≡ leftFloats (r .number) w h (now (floats .entry))) ⌝ }
 {
-    let j = judge(img.len(), w, h, ints.len(), floats.len());
-    let number = j.number;
-    let m = j.windows;
+    let verdict = judge(img.len(), w, h, ints.len(), floats.len());
+    let number = verdict.number;
+    let m = verdict.windows;
     if number != 0 {
         return refuse(number);
     }
