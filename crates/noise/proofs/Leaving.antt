@@ -72,7 +72,7 @@ module _ (img : List ℕ) (w h : ℕ) (ints : List ℤ) (floats : List Float) (v
 
   pub clears : v .number ≡ 0 → (a : Answer) (i : List ℤ) (f : List Float) → a ≡ measured img w h → i ≡ clearedInts (v .windows) ints → f ≡ clearedFloats (v .windows) floats → Parts a i f
   clears z a i f p q r = (
-      p ∙ sym (noise-measured img w h short (sym number-is ∙ z)),
-      q ∙ ap (λ (m : ℕ). clearedInts m ints) (windows-is z) ∙ all-changes img w h short a (clearedInts (neededOf w h) ints) ints p,
-      r ∙ ap (λ (m : ℕ). clearedFloats m floats) (windows-is z) ∙ all-changes img w h short a (clearedFloats (neededOf w h) floats) floats p,
+    p ∙ sym (noise-measured img w h short (sym number-is ∙ z)),
+    q ∙ ap (λ (m : ℕ). clearedInts m ints) (windows-is z) ∙ all-changes img w h short a (clearedInts (neededOf w h) ints) ints p,
+    r ∙ ap (λ (m : ℕ). clearedFloats m floats) (windows-is z) ∙ all-changes img w h short a (clearedFloats (neededOf w h) floats) floats p,
   )

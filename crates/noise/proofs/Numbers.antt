@@ -61,12 +61,12 @@ pub one-of : {kept found held n : ℕ} → Exactly kept found held n → (P : �
 one-of {kept} {found} {held} {n} e P p0 p5 p6 p7 = elim (le-or-lt 512 kept) [
   | inr a ↦ subst P (sym (e .five .1 a)) p5
   | inl a ↦ elim (le-or-lt 1 found) [
-      | inr b ↦ subst P (sym (e .six .1 (a, omega arith))) p6
-      | inl b ↦ elim (le-or-lt 512 held) [
-          | inr c ↦ subst P (sym (e .seven .1 (a, b, c))) p7
-          | inl c ↦ subst P (sym (e .zero .1 (a, b, c))) p0
-        ]
+    | inr b ↦ subst P (sym (e .six .1 (a, omega arith))) p6
+    | inl b ↦ elim (le-or-lt 512 held) [
+      | inr c ↦ subst P (sym (e .seven .1 (a, b, c))) p7
+      | inl c ↦ subst P (sym (e .zero .1 (a, b, c))) p0
     ]
+  ]
 ]
 
 pub measured-ran : (img : List ℕ) (w h : ℕ) → ran (measured img w h .number) ≡ true
@@ -77,9 +77,9 @@ ran-is n (inl e) = ap ran e
 ran-is n (inr e) = elim (le-or-lt 6 n) [
   | inr a ↦ ap ran (five n (e .0) a)
   | inl a ↦ elim (le-or-lt 7 n) [
-      | inr b ↦ ap ran (six n a b)
-      | inl b ↦ ap ran (seven n (e .1) b)
-    ]
+    | inr b ↦ ap ran (six n a b)
+    | inl b ↦ ap ran (seven n (e .1) b)
+  ]
 ]
   where
     five : (n : ℕ) → 5 ≤ n → n < 6 → n ≡ 5

@@ -31,9 +31,9 @@ lent a w h ints floats out =
         × (cond (ran (a .number)) (clearedFloats (neededOf w h) floats) floats ≡ cond b (clearedFloats (neededOf w h) floats) floats)
         × (cond (ran (a .number)) (answerBytes a ++ drop 40 out) out ≡ cond b (answerBytes a ++ drop 40 out) out)
     all e = (
-        ap (λ (x : Bool). cond x (clearedInts (neededOf w h) ints) ints) e,
-        ap (λ (x : Bool). cond x (clearedFloats (neededOf w h) floats) floats) e,
-        ap (λ (x : Bool). cond x (answerBytes a ++ drop 40 out) out) e,
+      ap (λ (x : Bool). cond x (clearedInts (neededOf w h) ints) ints) e,
+      ap (λ (x : Bool). cond x (clearedFloats (neededOf w h) floats) floats) e,
+      ap (λ (x : Bool). cond x (answerBytes a ++ drop 40 out) out) e,
     )
 
 pub demand1 : (pixels : List ℕ) (w h : ℕ) (ints : List ℤ) (floats : List Float) (out : List ℕ) → Demand1AtC pixels w h ints floats out

@@ -35,7 +35,7 @@ pub extern "C" fn vuzgari_noise(
         × (now (ints .exit) ≡ leftInts r w h (now (ints .entry)))
         × (now (floats .exit) ≡ leftFloats r w h (now (floats .entry)))
         × (now (out .exit) ≡ leftBytes (answerFor (now (pixels .entry)) w h (now (ints .entry)) (now (floats .entry)) (now (out .entry)))
-            (now (out .entry))) ⌝ }
+        (now (out .entry))) ⌝ }
 {
     let verdict = noise::judge(pixels.len(), w, h, ints.len(), floats.len());
     let cause = verdict.number;

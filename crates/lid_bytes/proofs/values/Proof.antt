@@ -7,8 +7,8 @@ use borrow.Author.Needs.{needs}
 use lib.ListN.{getD}
 use Rattle.laws.specs.Lists.{from}
 use Rattle.laws.proofs.Fill.{Tab, tab-start, tab-put, tab-end}
-use Rattle.lid.proofs.values.Statement.{statement}
-use Rattle.lid.proofs.values.Tie as tie
+use Rattle.lid_bytes.proofs.values.Statement.{statement}
+use Rattle.lid_bytes.proofs.values.Tie as tie
 
 abbrev Inv-loop : tie.InvT-loop
 Inv-loop words out₀ k₀ out k = Tab (λ i. getD words i 0) 10 k out

@@ -1,7 +1,7 @@
 -- The array is the zeros that the definition says.
 use mathlib.Core.Path.{refl}
-use Rattle.lid.proofs.input_room.Statement.{statement}
-use Rattle.lid.proofs.input_room.Tie as tie
+use Rattle.lid_bytes.proofs.input_room.Statement.{statement}
+use Rattle.lid_bytes.proofs.input_room.Tie as tie
 
 returns : tie.Need-returns
 returns c = refl

@@ -9,11 +9,10 @@ use Rattle.io.specs.Counts.{Counts}
 use Rattle.text.specs.Line.{lineOf}
 use Rattle.answer.specs.declared.Answer.{Answer}
 use Rattle.answer.specs.Fields.{wordsOf}
-use Rattle.lid.specs.Answer.{lidAnswer}
-use Rattle.lid.specs.Report.{header, kinds, reportOf, outputOf}
+use Rattle.lid_bytes.specs.Report.{header, kinds, reportOf}
 
 -- r bytes from the front are the report, and what stood after them stands
-abbrev Reported : List ℕ → List ℕ → List ℕ → ℕ → Type 0
+abbrev pub Reported : List ℕ → List ℕ → List ℕ → ℕ → Type 0
 Reported report out out′ r = (r ≡ length report) × (out′ ≡ report ++ drop r out)
 
 -- they lie in the output
@@ -31,6 +30,3 @@ reported a out out′ fields r e p q = (whole, counts (reportOf a) out out′ r 
 
     whole : Reported (reportOf a) out out′ r
     whole = (p ∙ ap length same, q ∙ ap (λ (l : List ℕ). l ++ drop r out) same)
-
-pub answered : (input : List ℕ) (a : Answer) (out out′ : List ℕ) (r : ℕ) → a ≡ lidAnswer input → Reported (reportOf a) out out′ r → Reported (outputOf input) out out′ r
-answered input a out out′ r e (p, q) = (p ∙ ap (λ (x : Answer). length (reportOf x)) e, q ∙ ap (λ (x : Answer). reportOf x ++ drop r out) e)

@@ -1,12 +1,12 @@
 -- A report of the answer's fields.
 use denote.Ref.{now}
-use Rattle.lid.proofs.Reports.{reported}
+use Rattle.lid_bytes.proofs.Reports.{reported}
 use borrow.Author.Needs.{needs}
-use Rattle.lid.proofs.print.Statement.{statement}
-use Rattle.lid.proofs.print.Tie as tie
-use Rattle.lid.proofs.print.Reads as reads
-use Rattle.lid.proofs.print.Lts as lts
-use Rattle.lid.proofs.values.Reads as values-reads
+use Rattle.lid_bytes.proofs.print.Statement.{statement}
+use Rattle.lid_bytes.proofs.print.Tie as tie
+use Rattle.lid_bytes.proofs.print.Reads as reads
+use Rattle.lid_bytes.proofs.print.Lts as lts
+use Rattle.lid_bytes.proofs.values.Reads as values-reads
 use Rattle.text.proofs.put_report.Reads as put-report-reads
 
 values-requires : tie.Need-values-requires

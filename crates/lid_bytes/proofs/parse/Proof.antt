@@ -3,12 +3,12 @@ use Prim.Native.Nat.{ℕ, _*_, _^_, _<_}
 use native.Mathlib.Omega.{arith}
 use native.Mathlib.Nat.{mul-le-mul, lt-of-le-of-lt}
 use denote.Ref.{now}
-use Rattle.lid.proofs.Inputs.{too-short, too-many, unlike, whole}
+use Rattle.lid_bytes.proofs.Inputs.{too-short, too-many, unlike, whole}
 use borrow.Author.Needs.{needs}
-use Rattle.lid.proofs.parse.Statement.{statement}
-use Rattle.lid.proofs.parse.Tie as tie
-use Rattle.lid.proofs.parse.Reads as reads
-use Rattle.lid.proofs.parse.Lts as lts
+use Rattle.lid_bytes.proofs.parse.Statement.{statement}
+use Rattle.lid_bytes.proofs.parse.Tie as tie
+use Rattle.lid_bytes.proofs.parse.Reads as reads
+use Rattle.lid_bytes.proofs.parse.Lts as lts
 use Rattle.little_endian.proofs.get.Reads as get-reads
 
 fits : (a b : ℕ) → a < 256 ^ 2 → b < 256 ^ 2 → a * b < 2 ^ 64

@@ -6,17 +6,8 @@ use lib.Dec.{ltb, eqb}
 use lib.ListN.{length, drop}
 use lib.Seq.{slice}
 use Rattle.little_endian.specs.Bytes.{valueOf}
-use Rattle.lid.specs.declared.Input.{Input}
-use Rattle.lid.specs.declared.Input.the-variants.{Image, Refused}
-
--- an image, by its sides, or a number, never both
-pub data Parsed : Type 0 where
-  image : ℕ → ℕ → Parsed
-  number : ℕ → Parsed
-
-abbrev pub says : Input → Parsed
-says (Image w h) = image w h
-says (Refused n) = number n
+use Rattle.lid_bytes.specs.declared.Input.{Input}
+use Rattle.lid_bytes.specs.declared.Input.the-variants.{Image, Refused}
 
 -- more pixels than this are 16
 abbrev pub mostPixels : ℕ
@@ -36,9 +27,9 @@ abbrev pub pixelsOf : List ℕ → List ℕ
 pixelsOf input = drop 4 input
 
 -- 15 under 4 bytes, 16 for too many pixels, 15 where the input is not 4 + w × h bytes: the first that applies
-unfoldable pub parsedOf : List ℕ → Parsed
+unfoldable pub parsedOf : List ℕ → Input
 parsedOf input =
-    cond (ltb (length input) 4) (number 15)
-    (cond (ltb mostPixels (widthOf input * heightOf input)) (number 16)
-    (cond (not (eqb (length input) (4 + widthOf input * heightOf input))) (number 15)
-    (image (widthOf input) (heightOf input))))
+    cond (ltb (length input) 4) (Refused 15)
+    (cond (ltb mostPixels (widthOf input * heightOf input)) (Refused 16)
+    (cond (not (eqb (length input) (4 + widthOf input * heightOf input))) (Refused 15)
+    (Image (widthOf input) (heightOf input))))
