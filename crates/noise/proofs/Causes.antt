@@ -120,6 +120,12 @@ needed-most w h s = no-more w h 268435456 (le-trans (total-most w h firstW (omeg
 
 -- ---- a call that is not refused
 
+pub allowed : (n w h : ℕ) (short : Bool) → refusalOf n w h short ≡ 0 → Sides w h
+unfolding refusalOf by
+allowed n w h short e =
+    let k = nothing (eqb (imageNumber n w h) 0) (imageNumber n w h) (tooSmall w h) short refl e in
+    sides n w h (k .0) (k .2)
+
 pub accepted : (img : List ℕ) (w h : ℕ) (ints : List ℤ) (floats : List Float) (m : ℕ) → m ≡ neededOf w h
     → refusalOf (length img) w h (shortOf w h (length ints) (length floats)) ≡ 0 → Ready img w h m ints floats
 unfolding refusalOf by
