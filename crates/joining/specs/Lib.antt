@@ -1,4 +1,4 @@
--- The noise of a pass, from its bands.
+-- The noise of a pass, from its bands; then what the code's needs use.
 pub mod Numbers
 pub mod Joining
-pub mod Examples
+pub mod Windows
