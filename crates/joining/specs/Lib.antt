@@ -2,3 +2,4 @@
 pub mod Numbers
 pub mod Joining
 pub mod Windows
+pub mod Examples
