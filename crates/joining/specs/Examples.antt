@@ -119,5 +119,5 @@ few = refl
 -- one round for the image and one for the band; empty bands have none
 pub enough : flatLid 512 ≡ record { sigma = Figure plusZero; rounds = 2 }
 unfolding noise noiseUnder sigmaOf decided deviation joined outlierLimit median imageVariance imageTotal bandVariance judged settle maxRounds oneRound
-  next near start quiet meanQuiet mean threshold cut sqrt convert totalLess negative isNan larger magnitude sub neg add mul div lt le eq ofInt round
+    next near start quiet meanQuiet mean threshold cut sqrt convert totalLess negative isNan larger magnitude sub neg add mul div lt le eq ofInt round
 enough = refl

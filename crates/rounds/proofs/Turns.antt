@@ -1,13 +1,15 @@
 -- What the loops of the rounds keep, for any windows and any number of rounds. Assumes nothing.
 use mathlib.Core.Path.{_≡_, refl, sym, ap, _∙_, subst}
-use mathlib.Core.Bool.{Bool, true, false, cond}
+use mathlib.Core.Bool.{Bool, true, false, cond, _||_}
 use Prim.Native.Nat.{ℕ, suc, _+_, _-_, _≤_, _<_}
 use native.Mathlib.Omega.{arith}
 use lib.Dec.{eqb}
-use lib.Ieee.{Float}
+use lib.Ieee.{Float, binary64, sub, mul, le}
 use borrow.Author.Tests.{eq-eqb, ne-eqb}
 use Rattle.laws.proofs.Choice.{chosen, passed, cond-both}
+use Rattle.ieee.specs.Order.{magnitude}
 use Rattle.sums.specs.declared.Total.{Total}
+use Rattle.rounds.specs.Numbers.{settledFraction}
 use Rattle.rounds.specs.Rounds.{next, near, settledAt, roundOf, oneRound, roundsFrom, maxRounds, startAt, settle}
 use Rattle.rounds.specs.declared.Settled.{Settled}
 use Rattle.rounds.specs.declared.Round.{Round}
@@ -18,6 +20,19 @@ unfolding maxRounds
 max-rounds-is = refl
 
 -- ---- one round
+
+-- the rounds are settled where as many windows are admitted as before, and else by how far the variance moves
+module _ (n prev : ℕ) (new var : Float) where
+  abbrev moved : Bool
+  moved = le (magnitude (sub binary64 new var)) (mul binary64 settledFraction var)
+
+  pub near-same : n ≡ prev → true ≡ near n prev new var
+  unfolding near
+  near-same h = sym (ap (λ (x : Bool). x || moved) (eq-eqb n prev h))
+
+  pub near-moved : (n ≡ prev → ⊥) → moved ≡ near n prev new var
+  unfolding near
+  near-moved h = sym (ap (λ (x : Bool). x || moved) (ne-eqb n prev h))
 
 module _ (k : Total) (s : Settled) where
   abbrev none : Round

@@ -99,7 +99,7 @@ few-windows = refl
 
 pub enough-windows : flat-band 128 ≡ record { found = Variance 128 (f64Of 0); rounds = 1 }
 unfolding bandVariance judged settle maxRounds oneRound next near start quiet meanQuiet mean threshold cut convert totalLess negative isNan larger
-  magnitude sub neg add mul div lt le eq ofInt round
+    magnitude sub neg add mul div lt le eq ofInt round
 enough-windows = refl
 
 -- ---- the image
@@ -117,5 +117,5 @@ four-bands = refl
 -- admit both
 pub start-of-all : imageVariance (f64Of 5 ∷ f64Of 0 ∷ []) (f64Of 3600 ∷ f64Of 0 ∷ []) (0 ∷ 1 ∷ 2 ∷ 2 ∷ 2 ∷ []) ≡ settledAt 1 (f64Of 0) 1
 unfolding imageVariance imageTotal settle maxRounds oneRound next near start quiet meanQuiet mean threshold cut convert totalLess negative isNan larger
-  magnitude sub neg add mul div lt le eq ofInt round
+    magnitude sub neg add mul div lt le eq ofInt round
 start-of-all = refl
