@@ -7,7 +7,7 @@ use lib.Ieee.{inf, fin, binary32, binary64, size, units, toBits, ofBits}
 use Rattle.ieee.specs.Convert.{convert}
 use Rattle.ieee.specs.Sqrt.{sqrt}
 use Rattle.ieee.specs.Floor.{floor}
-use Rattle.ieee.specs.Order.{larger, smaller, finite}
+use Rattle.ieee.specs.Order.{larger, smaller, magnitude, negative, finite}
 
 -- 16,777,217 is a tie, and goes to 2 ^ 24; -16,777,219 is one, and goes to -16,777,220
 pub convert-tie-down : convert binary32 (fin false 16777217 (pos 0)) ≡ fin false 1 (pos 24)
@@ -82,3 +82,16 @@ smaller-second = refl
 pub finite-largest : finite (ofBits binary32 0x7F7F_FFFF) ≡ true
 unfolding finite ofBits
 finite-largest = refl
+
+-- -3 without its sign, and the signs of -0 and +0
+pub magnitude-minus : magnitude (fin true 3 (pos 0)) ≡ fin false 3 (pos 0)
+unfolding magnitude
+magnitude-minus = refl
+
+pub negative-minus-zero : negative (fin true 0 (pos 0)) ≡ true
+unfolding negative
+negative-minus-zero = refl
+
+pub negative-plus-zero : negative (fin false 0 (pos 0)) ≡ false
+unfolding negative
+negative-plus-zero = refl
