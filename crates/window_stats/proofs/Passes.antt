@@ -31,7 +31,7 @@ pixels-small [] e = tt
 pixels-small (l ∷ m) e = (small-row l (e .0), pixels-small m (e .1))
 
 pub in-rows : (m : List (List ℤ)) → Each² Pixel m → Pixels (ofRows m)
-in-rows m e x y p q = each²-at Pixel (pos 0) (record { byte = 0; is = refl; low = lit≤ tt }) m e y x
+in-rows m e x y p q = each²-at Pixel (pos 0) (record { byte = 0; is = refl; most = lit≤ tt }) m e y x
 
 -- the four polynomials of four values
 abbrev polyE : ℕ → Ex → Ex → Ex → Ex → Ex
