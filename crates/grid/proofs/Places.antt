@@ -29,18 +29,18 @@ total-by w h windows s m e f =
     ap (λ (n : ℕ). length (joined (rowOf w s) 0 n)) f ∙ ap (λ (n : ℕ). length (joined (rowOf w n) 0 (rowsOf h n))) e
 
 -- T is the rows' windows added up
-abbrev pub added : (ℕ → ℕ) → ℕ → ℕ → ℕ
-added f k zero = 0
-added f k (suc n) = f k + added f (suc k) n
+abbrev pub sumFrom : (ℕ → ℕ) → ℕ → ℕ → ℕ
+sumFrom f k zero = 0
+sumFrom f k (suc n) = f k + sumFrom f (suc k) n
 
-joined-sum : (w s k n : ℕ) → length (joined (rowOf w s) k n) ≡ added (rowCount w s) k n
+joined-sum : (w s k n : ℕ) → length (joined (rowOf w s) k n) ≡ sumFrom (rowCount w s) k n
 joined-sum w s k zero = refl
 joined-sum w s k (suc n) =
     length-append (rowOf w s k) (joined (rowOf w s) (suc k) n)
     ∙ ap (λ (m : ℕ). m + length (joined (rowOf w s) (suc k) n)) (length-from (λ i. record { x = firstX k s + i * s; y = k * s }) 0 (rowCount w s k))
     ∙ ap (λ (m : ℕ). rowCount w s k + m) (joined-sum w s (suc k) n)
 
-pub total-sum : (w h windows : ℕ) → totalOf w h windows ≡ added (rowCount w (stepOf (w * h) windows)) 0 (rowsOf h (stepOf (w * h) windows))
+pub total-sum : (w h windows : ℕ) → totalOf w h windows ≡ sumFrom (rowCount w (stepOf (w * h) windows)) 0 (rowsOf h (stepOf (w * h) windows))
 unfolding placesOf
 total-sum w h windows = joined-sum w (stepOf (w * h) windows) 0 (rowsOf h (stepOf (w * h) windows))
 

@@ -123,7 +123,7 @@ pub fn measure(img: &[u8], w: usize, h: usize, windows: usize, ints: &mut [i32])
     ensures { λ r. ⌜ (r ≡ totalOf w h windows)
         × (now (ints .exit) ≡ columnsIn (figuresOf (now (img .entry)) w h windows) (now (ints .entry))) ⌝ }
 {
-    let t = grid::total(w, h, windows);
+    let t = grid::window_count(w, h, windows);
     let s = grid::step(w, h, windows);
     let m = grid::rows(h, s);
     let mut to = 0;
