@@ -1,0 +1,19 @@
+-- What C gets: numbers past 4,294,967,296, and the answer's bytes before what stood beyond them.
+use mathlib.Core.Path.{_≡_, refl}
+use mathlib.Core.List.{[], _∷_, _++_}
+use lib.ListN.{replicate}
+use Rattle.grid.specs.declared.Size.the-variants.{Windows, SideAbove, SideBelow}
+use Rattle.answer.specs.Fields.{answerBytes}
+use Rattle.noise.specs.Call.{refused}
+use Rattle.vuzgari.specs.Codes.{codeOf}
+use Rattle.vuzgari.specs.Noise.{leftBytes}
+
+pub sizes : (codeOf (Windows 9174) ≡ 9174) × (codeOf SideAbove ≡ 4294967297) × (codeOf SideBelow ≡ 4294967299)
+sizes = (refl, refl, refl)
+
+-- after 5 a slice of 42 bytes keeps its last two; after 4 all
+pub bytes-written : leftBytes (replicate 40 9 ++ (8 ∷ 7 ∷ [])) (refused 5) ≡ answerBytes (refused 5) ++ (8 ∷ 7 ∷ [])
+bytes-written = refl
+
+pub bytes-kept : leftBytes (replicate 40 9 ++ (8 ∷ 7 ∷ [])) (refused 4) ≡ replicate 40 9 ++ (8 ∷ 7 ∷ [])
+bytes-kept = refl
