@@ -73,8 +73,8 @@ impl PixelGradients {
                 state: self,
             };
         }
-        let i = support::offset(x, origin[0], side);
-        let j = support::offset(y, origin[1], side);
+        let i = support::past_origin(x, origin[0], side);
+        let j = support::past_origin(y, origin[1], side);
         if !((i < side) & (j < side)) {
             return Handed {
                 number: 11,

@@ -9,8 +9,8 @@ use denote.Ref.{now}
 use borrow.Author.Needs.{needs}
 use Rattle.gram.proofs.Sums.{added-one}
 use Rattle.gram.proofs.Nans.{Numbers, plain-cells}
-use Rattle.gram.proofs.plus.Statement.{statement}
-use Rattle.gram.proofs.plus.Tie as tie
+use Rattle.gram.proofs.with_products.Statement.{statement}
+use Rattle.gram.proofs.with_products.Tie as tie
 
 numbers : (c : tie.Start) → Numbers (now (c .args .gx)) (now (c .args .gy)) (c .args .i)
 numbers c = let a = c .args in plain-cells (now (a .gx)) (now (a .gy)) (length (now (a .gx))) (a .i) (c .pre .0 .plain) (c .pre .1)
@@ -39,8 +39,8 @@ float-to-float-y c = exact _ (c .row-known2 .given) (numbers (c .before .before 
 returns : tie.Need-returns
 returns c = let a = c .before .before .before .before .before .before .before .args in added-one (now (a .gx)) (now (a .gy)) (a .i) (a .s) refl refl refl
 
-pub plus-spec : {M : Type 1} → statement M
-plus-spec =
+pub with-products-spec : {M : Type 1} → statement M
+with-products-spec =
     tie.close
     (tie.spec
     mul-x
