@@ -17,7 +17,8 @@ abbrev pub widthFrom : Bool → Float → Width
 widthFrom known w = cond known (Known w) Unknown
 
 abbrev pub modelFrom : List Float → List Float → List Float → CovarianceModel
-modelFrom noise systematic growth = record { noise = covarianceFrom noise; systematic = covarianceFrom systematic; growth = growth }
+modelFrom noise systematic growth =
+    record { noise = covarianceFrom noise; systematic = covarianceFrom systematic; growth = growth }
 
 -- the number, gain and residual
 pub record ToldAt (a : At) (number : ℕ) (out : List Float) : Type 0 where
@@ -27,4 +28,5 @@ pub record ToldAt (a : At) (number : ℕ) (out : List Float) : Type 0 where
 -- the number, and the model by its eight floats
 pub record ToldModel (m : Modelled) (number : ℕ) (out : List Float) : Type 0 where
   pub told : number ≡ m .number
-  pub laid : out ≡ entries (m .model .noise) ++ (entries (m .model .systematic) ++ (getD (m .model .growth) 0 nan ∷ getD (m .model .growth) 1 nan ∷ []))
+  pub laid : out
+      ≡ entries (m .model .noise) ++ (entries (m .model .systematic) ++ (getD (m .model .growth) 0 nan ∷ getD (m .model .growth) 1 nan ∷ []))

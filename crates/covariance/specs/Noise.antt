@@ -33,7 +33,8 @@ wholeTerm m sigma = addCovariance (noiseTerm m sigma) (m .systematic)
 
 -- the noise part, the systematic part, growth and sigma are in their ranges, used or not
 abbrev pub modelInRange : CovarianceModel → Float → Bool
-modelInRange m sigma = ((allWithin 1000000 (m .noise) && allFinite (m .systematic)) && bothWithin 1000 (m .growth)) && sigmaRange sigma
+modelInRange m sigma =
+    ((allWithin 1000000 (m .noise) && allFinite (m .systematic)) && bothWithin 1000 (m .growth)) && sigmaRange sigma
 
 -- 12: one of them is not
 unfoldable pub noiseAt : CovarianceModel → Float → Judged

@@ -1,5 +1,5 @@
--- Demand 1 at the accumulator's calls: which numbers can come, each exactly where its cause is the first that applies, in document
--- 01's order, and what is handed back. Laws: `reset-answers`, `add-answers`, `covariance-answers`.
+-- Demand 1 at the accumulator's calls: which numbers can come, each exactly where its cause is the first that applies, in
+-- document 01's order, and what is handed back. Laws: `reset-answers`, `add-answers`, `covariance-answers`.
 use Prim.Native.Nat.{ℕ, _≤_, _<_}
 use mathlib.Core.Path.{_≡_}
 use mathlib.Core.Bool.{true, false}

@@ -57,7 +57,8 @@ abbrev pub addAt : List Float → ℕ → Float → List Float
 addAt l k x = set l k (Ieee.add binary32 (getD l k nan) x)
 
 abbrev pub added : PixelGradients → ℕ → List Float → PixelGradients
-added s k v = record { origin = s .origin; side = s .side; gx = addAt (s .gx) k (getD v 0 nan); gy = addAt (s .gy) k (getD v 1 nan) }
+added s k v =
+    record { origin = s .origin; side = s .side; gx = addAt (s .gx) k (getD v 0 nan); gy = addAt (s .gy) k (getD v 1 nan) }
 
 unfoldable pub addOf : PixelGradients → ℤ → ℤ → List Float → Handed
 unfolding handed addNumber
@@ -71,4 +72,6 @@ supportGram s = gram (take (s .side * s .side) (s .gx)) (take (s .side * s .side
 -- 8, 10 of the state; after that 13: a component isn't finite
 unfoldable pub covarianceOf : PixelGradients → Judged
 unfolding afterState
-covarianceOf s = cond (eqb (stateNumber (s .origin) (s .side)) 0) (judged (supportGram s)) (Refused (stateNumber (s .origin) (s .side)))
+covarianceOf s =
+    let n = stateNumber (s .origin) (s .side) in
+    cond (eqb n 0) (judged (supportGram s)) (Refused n)

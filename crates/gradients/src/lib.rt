@@ -32,7 +32,8 @@ impl PixelGradients {
         }
     }
 
-    // The accumulator cleared for a `side` by `side` support whose top-left pixel is `origin`: every cell is zero, those past the side too.
+    // The accumulator cleared for a `side` by `side` support whose top-left pixel is `origin`: every cell is zero, those past
+    // the side too.
     pub fn reset(mut self, origin: [i32; 2], side: usize) -> Handed
         ensures { λ r. ⌜ r ≡ resetOf self origin side ⌝ }
     {

@@ -60,7 +60,8 @@ struct Four {
 
 fn partials(gx: &[f32], gy: &[f32]) -> Four
     requires { ⌜ Plain (now gx) (now gy) ⌝ }
-    ensures { λ r. ⌜ FourSums (now (gx .entry)) (now (gy .entry)) (length (now (gx .entry)) / 4) (r .p0) (r .p1) (r .p2) (r .p3) ⌝ }
+    ensures { λ r. ⌜ FourSums (now (gx .entry)) (now (gy .entry)) (length (now (gx .entry)) / 4)
+        (r .p0) (r .p1) (r .p2) (r .p3) ⌝ }
 {
     let fours = gx.len() / 4;
     let mut p0 = none();
@@ -82,7 +83,8 @@ fn partials(gx: &[f32], gy: &[f32]) -> Four
 // s, and what is left past the whole fours added to it.
 fn with_rest(gx: &[f32], gy: &[f32], s: Three) -> Three
     requires { ⌜ Plain (now gx) (now gy) ⌝ }
-    ensures { λ r. ⌜ Added (now (gx .entry)) (now (gy .entry)) 1 (length (now (gx .entry)) / 4 * 4) s (length (now (gx .entry)) % 4) r ⌝ }
+    ensures { λ r. ⌜ Added (now (gx .entry)) (now (gy .entry)) 1 (length (now (gx .entry)) / 4 * 4) s
+        (length (now (gx .entry)) % 4) r ⌝ }
 {
     let first = gx.len() / 4 * 4;
     let rest = gx.len() % 4;

@@ -31,7 +31,8 @@ pub fn rises(widths: &[f32; 16], n: usize) -> bool
 }
 
 // Whether each of the first n widths is above the one before it, and each of the first n knots' numbers is in the range of knots:
-// one loop without a jump. Before the first width stands a NaN, which no float is at or below; a NaN among the widths is out of range.
+// one loop without a jump. Before the first width stands a NaN, which no float is at or below; a NaN among the widths is out
+// of range.
 pub fn rises_in_range(
     widths: &[f32; 16],
     gains: &[f32; 16],

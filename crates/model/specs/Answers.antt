@@ -26,13 +26,16 @@ pub record AtAnswers (s : SystematicModel) (w : Width) (a : At) : Type 0 where
   pub done : atNumber a ≡ 0 → (atGain a ≡ gainAt s w) × (atResidual a ≡ residualAt s w)
 
 -- `model`: 14, 12, 13
-pub record ModelAnswers (s : SystematicModel) (c : PositionCovariance) (u : List Float) (w : Width) (grid : Float) (m : Modelled) : Type 0 where
+pub record ModelAnswers (s : SystematicModel) (c : PositionCovariance) (u : List Float) (w : Width) (grid : Float) (m : Modelled)
+    : Type 0 where
   pub is-14 : (m .number ≡ 14) ↔ (rising s ≡ false)
   pub is-12 : (m .number ≡ 12) ↔ ((rising s ≡ true) × (knotsInRange s && estimateInRange c u grid ≡ false))
   pub is-13 : (m .number ≡ 13)
-      ↔ ((rising s ≡ true) × ((knotsInRange s && estimateInRange c u grid ≡ true) × (allFinite (systematicAt s u w grid) ≡ false)))
+      ↔ ((rising s ≡ true) × ((knotsInRange s && estimateInRange c u grid ≡ true)
+      × (allFinite (systematicAt s u w grid) ≡ false)))
   pub is-0 : (m .number ≡ 0)
-      ↔ ((rising s ≡ true) × ((knotsInRange s && estimateInRange c u grid ≡ true) × (allFinite (systematicAt s u w grid) ≡ true)))
+      ↔ ((rising s ≡ true) × ((knotsInRange s && estimateInRange c u grid ≡ true)
+      × (allFinite (systematicAt s u w grid) ≡ true)))
   pub no-other : OneOf (14 ∷ 12 ∷ 13 ∷ 0 ∷ []) (m .number)
   pub refused : (m .number ≡ 0 → ⊥) → m .model ≡ ungrown zeros zeros
   pub done : m .number ≡ 0 → m .model ≡ ungrown c (systematicAt s u w grid)

@@ -7,4 +7,5 @@ use Rattle.knots.specs.Places.{place, valueAt}
 use Rattle.model.specs.declared.GainResidual.{GainResidual}
 
 abbrev pub pairAt : List Float → List Float → List Float → ℕ → Width → GainResidual
-pairAt widths gains residuals n w = record { gain = valueAt gains (place widths n w); residual = valueAt residuals (place widths n w) }
+pairAt widths gains residuals n w =
+    record { gain = valueAt gains (place widths n w); residual = valueAt residuals (place widths n w) }

@@ -28,7 +28,10 @@ estimateInRange c u grid = (allWithin 1000000 c && bothWithin 1000 u) && upTo 10
 unfoldable pub modelNumber : SystematicModel → PositionCovariance → List Float → Width → Float → ℕ
 unfolding systematic place valueAt
 modelNumber s c u w grid =
-    cond (not (rising s)) 14 (cond (not (knotsInRange s && estimateInRange c u grid)) 12 (cond (not (allFinite (systematicAt s u w grid))) 13 0))
+    cond (not (rising s)) 14
+    (cond (not (knotsInRange s && estimateInRange c u grid)) 12
+    (cond (not (allFinite (systematicAt s u w grid))) 13
+    0))
 
 -- a model that doesn't grow
 abbrev pub ungrown : PositionCovariance → PositionCovariance → CovarianceModel
@@ -41,4 +44,5 @@ refusal n = record { number = n; model = ungrown zeros zeros }
 unfoldable pub modelOf : SystematicModel → PositionCovariance → List Float → Width → Float → Modelled
 unfolding modelNumber
 modelOf s c u w grid =
-    cond (eqb (modelNumber s c u w grid) 0) (record { number = 0; model = ungrown c (systematicAt s u w grid) }) (refusal (modelNumber s c u w grid))
+    let n = modelNumber s c u w grid in
+    cond (eqb n 0) (record { number = 0; model = ungrown c (systematicAt s u w grid) }) (refusal n)

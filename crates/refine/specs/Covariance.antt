@@ -17,7 +17,8 @@ zeros = covariance plusZero plusZero plusZero
 
 -- entry by entry, each sum rounded once
 abbrev pub addCovariance : PositionCovariance → PositionCovariance → PositionCovariance
-addCovariance c d = covariance (Ieee.add binary32 (c .xx) (d .xx)) (Ieee.add binary32 (c .xy) (d .xy)) (Ieee.add binary32 (c .yy) (d .yy))
+addCovariance c d =
+    covariance (Ieee.add binary32 (c .xx) (d .xx)) (Ieee.add binary32 (c .xy) (d .xy)) (Ieee.add binary32 (c .yy) (d .yy))
 
 abbrev pub allFinite : PositionCovariance → Bool
 allFinite c = (finite (c .xx) && finite (c .xy)) && finite (c .yy)

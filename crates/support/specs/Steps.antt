@@ -1,4 +1,4 @@
--- What the code's test of a pixel needs alone: its distance past an origin and its test as one number. Laws: `in-side`, `steps-are`.
+-- What the code's test of a pixel needs alone: distance past an origin and test as one number. Laws: `in-side`, `steps-are`.
 use Prim.Native.Nat.{ℕ, min}
 use lib.IntN.{ℤ, pos, negsuc, _-ℤ_}
 
