@@ -5,7 +5,8 @@ ghost use Rattle.grid.specs.Needed.{sizingOf};
 ghost use Rattle.edge.specs.Edge.{edge};
 ghost use Rattle.edge.specs.Code.{code};
 ghost use Rattle.vuzgari.specs.Codes.{codeOf};
-ghost use Rattle.vuzgari.specs.Noise.{noiseOf};
+ghost use Rattle.noise.specs.Call.{leftInts, leftFloats};
+ghost use Rattle.vuzgari.specs.Noise.{answerFor, leftBytes};
 
 // M for an image of w by h, or 4,294,967,296 plus the number of a refusal. The noise call needs 3M i32 and 2M + 2 f32.
 #[no_mangle]
@@ -30,14 +31,15 @@ pub extern "C" fn vuzgari_noise(
     floats: &mut [f32],
     out: &mut [u8],
 ) -> u32
-    ensures { λ r. ⌜ (r ≡ noiseOf (now (pixels .entry)) w h (now (ints .entry)) (now (floats .entry)) (now (out .entry)) .number)
-        × (now (ints .exit) ≡ noiseOf (now (pixels .entry)) w h (now (ints .entry)) (now (floats .entry)) (now (out .entry)) .ints)
-        × (now (floats .exit) ≡ noiseOf (now (pixels .entry)) w h (now (ints .entry)) (now (floats .entry)) (now (out .entry)) .floats)
-        × (now (out .exit) ≡ noiseOf (now (pixels .entry)) w h (now (ints .entry)) (now (floats .entry)) (now (out .entry)) .bytes) ⌝ }
+    ensures { λ r. ⌜ (r ≡ answerFor (now (pixels .entry)) w h (now (ints .entry)) (now (floats .entry)) (now (out .entry)) .number)
+        × (now (ints .exit) ≡ leftInts r w h (now (ints .entry)))
+        × (now (floats .exit) ≡ leftFloats r w h (now (floats .entry)))
+        × (now (out .exit) ≡ leftBytes (answerFor (now (pixels .entry)) w h (now (ints .entry)) (now (floats .entry)) (now (out .entry)))
+        (now (out .entry))) ⌝ }
 {
-    let j = noise::judge(pixels.len(), w, h, ints.len(), floats.len());
-    let cause = j.number;
-    let m = j.windows;
+    let verdict = noise::judge(pixels.len(), w, h, ints.len(), floats.len());
+    let cause = verdict.number;
+    let m = verdict.windows;
     if cause != 0 {
         return cause;
     }
