@@ -3,12 +3,12 @@ use Prim.Native.Nat.{ℕ, _+_, _*_}
 use mathlib.Core.List.{List}
 use lib.ListN.{getD}
 use lib.Ieee.{Float, nan, binary32, add, mul}
-use Rattle.levels.specs.Whole.{whole}
+use Rattle.ieee.specs.Numbers.{f32Of}
 
 -- by the source's operations: (a + e) + 4 (b + d) + 6 c
 abbrev pub binomial : Float → Float → Float → Float → Float → Float
 binomial a b c d e =
-    add binary32 (add binary32 (add binary32 a e) (mul binary32 (whole 4) (add binary32 b d))) (mul binary32 (whole 6) c)
+    add binary32 (add binary32 (add binary32 a e) (mul binary32 (f32Of 4) (add binary32 b d))) (mul binary32 (f32Of 6) c)
 
 -- of the five values from place k of a list on, each a stride after the one before
 abbrev pub along : List Float → ℕ → ℕ → Float

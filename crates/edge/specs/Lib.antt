@@ -1,2 +1,1 @@
 pub mod Edge
-pub mod Code

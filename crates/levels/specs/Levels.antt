@@ -6,14 +6,14 @@ use lib.ListN.{length}
 use lib.Ieee.{Float, inf, binary32, add, sub, mul, div, le, round}
 use Rattle.ieee.specs.Order.{larger, smaller}
 use Rattle.levels.specs.Kept.{kept}
-use Rattle.levels.specs.Whole.{whole}
+use Rattle.ieee.specs.Numbers.{f32Of}
 
 -- from the first to the last
 abbrev pub total : List Float → Float
-total l = foldl (add binary32) (whole 0) l
+total l = foldl (add binary32) (f32Of 0) l
 
 abbrev pub mean : List Float → Float
-mean l = div binary32 (total l) (whole (max (length l) 1))
+mean l = div binary32 (total l) (f32Of (max (length l) 1))
 
 abbrev pub highest : List Float → Float
 highest l = foldl larger (inf true) l

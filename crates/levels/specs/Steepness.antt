@@ -5,7 +5,7 @@ use lib.ListN.{drop}
 use lib.Ieee.{Float, binary32, mul, div, round}
 use Rattle.ieee.specs.Sqrt.{sqrt}
 use Rattle.quantile.specs.Rising.{at, rising}
-use Rattle.levels.specs.Whole.{whole}
+use Rattle.ieee.specs.Numbers.{f32Of}
 use Rattle.levels.specs.Levels.{total}
 
 -- the smallest of them first
@@ -14,4 +14,4 @@ largest g = drop 73 (rising (at g) 81)
 
 -- the roots are added from the smallest up
 unfoldable pub steepness : List Float → Float
-steepness g = div binary32 (mul binary32 (round binary32 false 1 2) (total (map (sqrt binary32) (largest g)))) (whole 8)
+steepness g = div binary32 (mul binary32 (round binary32 false 1 2) (total (map (sqrt binary32) (largest g)))) (f32Of 8)

@@ -7,7 +7,8 @@ ghost use lib.ListN.{length, drop};
 ghost use lib.Ieee.{binary32, sub, div, le};
 ghost use Rattle.ieee.specs.Sqrt.{sqrt};
 ghost use Rattle.quantile.specs.Rising.{inserted, Rises};
-ghost use Rattle.levels.specs.Whole.{whole, Upto, AllUpto};
+ghost use Rattle.ieee.specs.Numbers.{f32Of};
+ghost use Rattle.levels.specs.Whole.{Upto, AllUpto};
 ghost use Rattle.levels.specs.Kept.{kept};
 ghost use Rattle.levels.specs.Clear.{clear, AllClear};
 ghost use Rattle.levels.specs.Levels as Levels;
@@ -17,7 +18,7 @@ ghost use Rattle.levels.specs.Slide as Slide;
 // v, which is a whole number.
 fn number(v: f32) -> u32
     requires { ⌜ Upto 65280 v ⌝ }
-    ensures { λ r. ⌜ (v ≡ whole r) × (r ≤ 65280) ⌝ }
+    ensures { λ r. ⌜ (v ≡ f32Of r) × (r ≤ 65280) ⌝ }
 {
     (v as i32) as u32
 }
@@ -55,7 +56,7 @@ fn extremes(values: &[f32; 81]) -> [f32; 2]
 // sum over n, or over 1 where n is 0.
 fn mean(sum: u32, n: u32) -> f32
     requires { ⌜ (sum ≤ 2 ^ 24) × (n ≤ 81) ⌝ }
-    ensures { λ r. ⌜ r ≡ div binary32 (whole sum) (whole (max n 1)) ⌝ }
+    ensures { λ r. ⌜ r ≡ div binary32 (f32Of sum) (f32Of (max n 1)) ⌝ }
 {
     let total = sum as f32;
     if n == 0 {

@@ -1,3 +1,4 @@
+pub mod Refusal
 pub mod Tile
-pub mod Laid
 pub mod Width
+pub mod Picked

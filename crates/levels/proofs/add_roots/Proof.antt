@@ -9,7 +9,7 @@ use lib.Ieee.{add}
 use Rattle.ieee.specs.Sqrt.{sqrt}
 use Rattle.levels.proofs.Folds.{Folding, fold-start, fold-put, fold-end, foldl-map}
 use Rattle.levels.proofs.Constants.{zero-is}
-use Rattle.levels.specs.Whole.{whole}
+use Rattle.ieee.specs.Numbers.{f32Of}
 use Rattle.levels.proofs.add_roots.Statement.{statement}
 use Rattle.levels.proofs.add_roots.Tie as tie
 
@@ -44,7 +44,7 @@ loop-again c =
 returns : tie.Need-returns Inv-loop μ-loop
 returns c =
     let l = now (c .before .before .args .top) in
-    fold-end (c .before .loop .inv) (omega arith) ∙ ap (λ (z : Float). foldl (λ a x. add binary32 a (sqrt binary32 x)) z l) zero-is ∙ sym (foldl-map (add binary32) (sqrt binary32) (whole 0) l)
+    fold-end (c .before .loop .inv) (omega arith) ∙ ap (λ (z : Float). foldl (λ a x. add binary32 a (sqrt binary32 x)) z l) zero-is ∙ sym (foldl-map (add binary32) (sqrt binary32) (f32Of 0) l)
 
 pub add-roots-spec : {M : Type 1} → statement M
 add-roots-spec =

@@ -1,11 +1,9 @@
 -- The bits of a width, or the number past 2 ^ 32.
 use mathlib.Core.Path.{sym, ap, _∙_}
-use Prim.Native.Nat.{ℕ, _+_}
 use borrow.Author.Needs.{needs}
-use Rattle.tile.specs.Width.{answer}
-use Rattle.edge.specs.Code as Code
-use Rattle.edge.proofs.code.Statement.{statement}
-use Rattle.edge.proofs.code.Tie as tie
+use Rattle.vuzgari.specs.Codes.{numberCode, widthCode}
+use Rattle.vuzgari.proofs.width_code.Statement.{statement}
+use Rattle.vuzgari.proofs.width_code.Tie as tie
 
 enum-known-e : tie.Need-enum-known-e
 enum-known-e c = search needs
@@ -26,13 +24,13 @@ add-result : tie.Need-add-result
 add-result c = search needs
 
 returns : tie.Need-returns
-returns c = c .wide .ensures ∙ c .before .bits32 .ensures ∙ ap (λ t. Code.code (answer t)) (sym (c .before .before .before .e .given .1))
+returns c = c .wide .ensures ∙ c .before .bits32 .ensures ∙ ap widthCode (sym (c .before .before .before .e .given .1))
 
 returns-2 : tie.Need-returns-2
-returns-2 c = ap (λ (n : ℕ). 4294967296 + n) (c .wide2 .ensures) ∙ ap (λ t. Code.code (answer t)) (sym (c .before .before .e2 .given .1))
+returns-2 c = ap numberCode (c .wide2 .ensures) ∙ ap widthCode (sym (c .before .before .e2 .given .1))
 
-pub code-spec : {M : Type 1} → statement M
-code-spec =
+pub width-code-spec : {M : Type 1} → statement M
+width-code-spec =
     tie.close
     (tie.spec
     enum-known-e
