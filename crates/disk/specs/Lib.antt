@@ -2,3 +2,4 @@ pub mod Rows
 pub mod Smoothing
 pub mod Disk
 pub mod Gradients
+pub mod Examples

@@ -1,1 +1,2 @@
 pub mod Tiles
+pub mod Demand1

@@ -5,3 +5,4 @@ pub mod Levels
 pub mod Steepness
 pub mod Adding
 pub mod Slide
+pub mod Examples

@@ -2,3 +2,4 @@ pub mod Refusal
 pub mod Tile
 pub mod Width
 pub mod Picked
+pub mod Examples
