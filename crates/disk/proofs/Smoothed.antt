@@ -12,11 +12,11 @@ use lib.Ieee.Exact.{HasValue}
 use Rattle.ieee.specs.Numbers.{f32Of}
 use Rattle.levels.specs.Whole.{Upto, AllUpto}
 use Rattle.levels.specs.Clear.{clear, AllClear}
-use Rattle.levels.specs.Kept.{kept}
-use Rattle.levels.specs.Levels.{total}
+use Rattle.levels.specs.Filtered.{filtered}
+use Rattle.levels.specs.Levels.{summed}
 use Rattle.levels.proofs.Folds.{getD-map}
-use Rattle.levels.proofs.Sums.{addUp, total-exact}
-use Rattle.levels.proofs.Largests.{all-clear}
+use Rattle.levels.proofs.Sums.{addUp, summed-exact}
+use Rattle.levels.proofs.Clears.{all-clear}
 use Rattle.levels.proofs.Wholes.{whole-value, add-whole, mul-whole, sub-plain, square-clear, add-clear}
 use Rattle.disk.specs.Smoothing.{binomial, down, smoothed}
 use Rattle.disk.specs.Disk.{disk}
@@ -72,24 +72,24 @@ gradients-clear s h = all-clear (gradients s) (λ m l. at m (omega (arith, l, le
 
 -- ---- the values that a level is the mean of add up to less than 2 ^ 24, so their f32 sum is exact in any order
 
-pub record Summed (l : List Float) : Type 0 where
+pub record Numbers (l : List Float) : Type 0 where
   pub numbers : List ℕ
   pub are : l ≡ map f32Of numbers
   pub few : addUp numbers ≤ length l * 65280
 
-summed : (p : Float → Bool) (l : List Float) → ((k : ℕ) → k < length l → Upto 65280 (getD l k nan)) → Summed (kept p l)
-summed p [] h = record { numbers = []; are = refl; few = omega arith }
-summed p (x ∷ l) h = go (p x) (summed p l (λ k g. h (suc k) (omega arith))) (h 0 (omega arith))
+as-numbers : (p : Float → Bool) (l : List Float) → ((k : ℕ) → k < length l → Upto 65280 (getD l k nan)) → Numbers (filtered p l)
+as-numbers p [] h = record { numbers = []; are = refl; few = omega arith }
+as-numbers p (x ∷ l) h = go (p x) (as-numbers p l (λ k g. h (suc k) (omega arith))) (h 0 (omega arith))
   where
-    go : (t : Bool) → Summed (kept p l) → Upto 65280 x → Summed (cond t (x ∷ kept p l) (kept p l))
+    go : (t : Bool) → Numbers (filtered p l) → Upto 65280 x → Numbers (cond t (x ∷ filtered p l) (filtered p l))
     go true s u = record { numbers = u .number ∷ s .numbers; are = λ i. u .is i ∷ s .are i; few = omega (arith, u .small, s .few) }
     go false s u = s
 
-kept-few : (p : Float → Bool) (l : List Float) → length (kept p l) ≤ length l
-kept-few p [] = omega arith
-kept-few p (x ∷ l) = go (p x) (kept-few p l)
+filtered-few : (p : Float → Bool) (l : List Float) → length (filtered p l) ≤ length l
+filtered-few p [] = omega arith
+filtered-few p (x ∷ l) = go (p x) (filtered-few p l)
   where
-    go : (t : Bool) → length (kept p l) ≤ length l → length (cond t (x ∷ kept p l) (kept p l)) ≤ suc (length l)
+    go : (t : Bool) → length (filtered p l) ≤ length l → length (cond t (x ∷ filtered p l) (filtered p l)) ≤ suc (length l)
     go true h = omega arith
     go false h = omega arith
 
@@ -102,9 +102,9 @@ values-upto s h = record { each = at; long = length-map disk (λ k. s (k / 17) (
         subst (λ (z : Float). Upto 65280 z) (sym (getD-map (λ k. s (k / 17) (k % 17)) 0 nan disk m (omega (arith, disk-long)))) (h (getD disk m 0 / 17) (getD disk m 0 % 17) (omega arith) (omega arith))
 
 pub sums-exact : (s : ℕ → ℕ → Float) → ((y x : ℕ) → y ≤ 12 → x ≤ 12 → Upto 65280 (s y x)) → (p : Float → Bool)
-    → (numbers : List ℕ) × (kept p (values s) ≡ map f32Of numbers) × (addUp numbers ≤ 2 ^ 24) × (total (kept p (values s)) ≡ f32Of (addUp numbers))
+    → (numbers : List ℕ) × (filtered p (values s) ≡ map f32Of numbers) × (addUp numbers ≤ 2 ^ 24) × (summed (filtered p (values s)) ≡ f32Of (addUp numbers))
 sums-exact s h p =
     let v = values-upto s h in
-    let r = summed p (values s) (λ k g. v .each k (omega (arith, g, v .long))) in
-    let few : addUp (r .numbers) ≤ 2 ^ 24 = omega (arith, r .few, mul-le-mul-right 65280 (kept-few p (values s)), v .long) in
-    (r .numbers, r .are, few, ap total (r .are) ∙ total-exact (r .numbers) few)
+    let r = as-numbers p (values s) (λ k g. v .each k (omega (arith, g, v .long))) in
+    let few : addUp (r .numbers) ≤ 2 ^ 24 = omega (arith, r .few, mul-le-mul-right 65280 (filtered-few p (values s)), v .long) in
+    (r .numbers, r .are, few, ap summed (r .are) ∙ summed-exact (r .numbers) few)

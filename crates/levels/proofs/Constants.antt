@@ -15,11 +15,3 @@ one-is = refl
 pub fifth-is : ofBits binary32 0x3e4c_cccd ≡ round binary32 false 1 5
 unfolding ofBits round
 fifth-is = refl
-
-pub half-is : ofBits binary32 0x3f00_0000 ≡ round binary32 false 1 2
-unfolding ofBits round
-half-is = refl
-
-pub eight-is : ofBits binary32 0x4100_0000 ≡ f32Of 8
-unfolding ofBits ofInt
-eight-is = refl

@@ -8,9 +8,9 @@ use lib.ListN.{length, getD}
 use lib.Ieee.{Float, nan, binary32, add, div}
 use Rattle.laws.proofs.Choice.{chosen, passed}
 use Rattle.ieee.specs.Numbers.{f32Of}
-use Rattle.levels.specs.Kept.{kept}
-use Rattle.levels.specs.Levels.{total, mean}
-use Rattle.levels.proofs.Folds.{Folding, fold-start, fold-put, fold-end, foldl-kept, count-kept}
+use Rattle.levels.specs.Filtered.{filtered}
+use Rattle.levels.specs.Levels.{summed, meanOf}
+use Rattle.levels.proofs.Folds.{Folding, fold-start, fold-put, fold-end, foldl-filtered, count-filtered}
 use Rattle.levels.proofs.Wholes.{add-whole}
 
 -- the first m values taken in, of which n pass
@@ -50,7 +50,7 @@ module _ {p : Float → Bool} {l : List Float} {sum n m : ℕ} (s : Summing p l 
       count = fold-put nan (s .count) (omega arith) (f ∙ passed (p next) (n + 1) n t);
     }
 
-  pub done : length l ≤ m → div binary32 (f32Of sum) (f32Of (max n 1)) ≡ mean (kept p l)
+  pub done : length l ≤ m → div binary32 (f32Of sum) (f32Of (max n 1)) ≡ meanOf (filtered p l)
   done h =
-      ap (λ (z : Float). div binary32 z (f32Of (max n 1))) (fold-end (s .fold) h ∙ foldl-kept (add binary32) p (f32Of 0) l)
-      ∙ ap (λ (k : ℕ). div binary32 (total (kept p l)) (f32Of (max k 1))) (fold-end (s .count) h ∙ count-kept p l)
+      ap (λ (z : Float). div binary32 z (f32Of (max n 1))) (fold-end (s .fold) h ∙ foldl-filtered (add binary32) p (f32Of 0) l)
+      ∙ ap (λ (k : ℕ). div binary32 (summed (filtered p l)) (f32Of (max k 1))) (fold-end (s .count) h ∙ count-filtered p l)

@@ -14,7 +14,7 @@ use lib.Ieee.Fits.{down-pos}
 use Rattle.ieee.specs.Order.{larger, smaller}
 use Rattle.ieee.specs.Numbers.{f32Of}
 use Rattle.levels.specs.Clear.{clear}
-use Rattle.levels.specs.Levels.{total}
+use Rattle.levels.specs.Levels.{summed}
 use Rattle.levels.specs.Adding.{Adding, one, both, exactly, inFloats}
 use Rattle.levels.proofs.Wholes.{whole-value, add-whole}
 
@@ -48,14 +48,14 @@ exactly-turn a (n ∷ l) = exactly-turn (both a (one n)) l ∙ go (exactly a) n 
     go : (a n k : ℕ) → a + n + k ≡ a + (n + k)
     go a n k = omega arith
 
-pub total-exact : (l : List ℕ) → addUp l ≤ 2 ^ 24 → total (map f32Of l) ≡ f32Of (addUp l)
-total-exact l h = in-turn (one 0) l ∙ sum-exact (inTurn (one 0) l) (omega (arith, exactly-turn (one 0) l)) ∙ ap f32Of (exactly-turn (one 0) l ∙ go (addUp l))
+pub summed-exact : (l : List ℕ) → addUp l ≤ 2 ^ 24 → summed (map f32Of l) ≡ f32Of (addUp l)
+summed-exact l h = in-turn (one 0) l ∙ sum-exact (inTurn (one 0) l) (omega (arith, exactly-turn (one 0) l)) ∙ ap f32Of (exactly-turn (one 0) l ∙ go (addUp l))
   where
     go : (n : ℕ) → 0 + n ≡ n
     go n = omega arith
 
-pub total-any-order : (l : List ℕ) (a : Adding) → exactly a ≡ addUp l → addUp l ≤ 2 ^ 24 → inFloats a ≡ total (map f32Of l)
-total-any-order l a e h = sum-exact a (omega arith) ∙ ap f32Of e ∙ sym (total-exact l h)
+pub summed-any-order : (l : List ℕ) (a : Adding) → exactly a ≡ addUp l → addUp l ≤ 2 ^ 24 → inFloats a ≡ summed (map f32Of l)
+summed-any-order l a e h = sum-exact a (omega arith) ∙ ap f32Of e ∙ sym (summed-exact l h)
 
 -- ---- the order of whole numbers is that of their floats
 

@@ -1,4 +1,4 @@
--- Floats that are whole numbers.
+-- What the code asks of samples and of values: floats that are whole numbers.
 use mathlib.Core.Path.{_≡_}
 use mathlib.Core.List.{List}
 use Prim.Native.Nat.{ℕ, _≤_, _<_}

@@ -19,10 +19,9 @@ use Rattle.disk.specs.Gradients.{values, squaredAt, gradients}
 use Rattle.levels.specs.Levels.{highLevel, lowLevel}
 use Rattle.tile.specs.declared.EdgeWidth.the-variants.{Width, Refused}
 use Rattle.tile.specs.declared.PixelTile.{PixelTile}
-use Rattle.tile.specs.Width.{widthOf, edgeOf, edgeOfTile}
-use Rattle.levels.specs.Steepness.{steepness}
+use Rattle.tile.specs.Width.{rootTwoPi, edgeOf, edgeOfTile}
+use Rattle.steepness.specs.Steepness.{steepness}
 use Rattle.levels.proofs.Constants.{zero-is}
-use Rattle.tile.proofs.Constants.{root-is}
 use Rattle.disk.proofs.Places.{disk-long, Agree, values-same, gradients-same, smooth-read}
 use Rattle.disk.proofs.Smoothed.{smooth-upto, gradients-clear, values-upto}
 
@@ -72,10 +71,10 @@ module _ (samples rows smooth grads : List Float) (p : rows ≡ inRows (down (re
     pub flat-is : lt (ofBits binary32 0) g ≡ false → Refused 9 ≡ edgeOf (smoothed (read samples))
     flat-is h = passed (lt (f32Of 0) steep) _ (Refused 9) (sym test-is ∙ h)
 
-    pub width-is : (vals : List Float) (contrast : Float) → vals ≡ values (read smooth) → contrast ≡ sub binary32 (highLevel vals) (lowLevel vals) → lt (ofBits binary32 0) g ≡ true
-        → Width (div binary32 contrast (mul binary32 (ofBits binary32 0x4020_6c99) g)) ≡ edgeOf (smoothed (read samples))
-    width-is vals contrast v c h =
-        (λ i. Width (div binary32 (contrast-is i) (mul binary32 (root-is i) (g-is i)))) ∙ chosen (lt (f32Of 0) steep) _ (Refused 9) (sym test-is ∙ h)
+    pub width-is : (vals : List Float) (contrast root : Float) → vals ≡ values (read smooth) → contrast ≡ sub binary32 (highLevel vals) (lowLevel vals) → root ≡ rootTwoPi → lt (ofBits binary32 0) g ≡ true
+        → Width (div binary32 contrast (mul binary32 root g)) ≡ edgeOf (smoothed (read samples))
+    width-is vals contrast root v c e h =
+        (λ i. Width (div binary32 (contrast-is i) (mul binary32 (e i) (g-is i)))) ∙ chosen (lt (f32Of 0) steep) _ (Refused 9) (sym test-is ∙ h)
       where
         contrast-is : contrast ≡ sub binary32 (highLevel (values (smoothed (read samples)))) (lowLevel (values (smoothed (read samples))))
         contrast-is = c ∙ (λ i. sub binary32 (highLevel (vals-are vals v i)) (lowLevel (vals-are vals v i)))

@@ -6,7 +6,7 @@ use lib.Ieee.{Float, binary32, sub, mul, div, lt, round}
 use Rattle.ieee.specs.Numbers.{f32Of}
 use Rattle.ieee.specs.Sqrt.{sqrt}
 use Rattle.levels.specs.Levels.{highLevel, lowLevel}
-use Rattle.levels.specs.Steepness.{steepness}
+use Rattle.steepness.specs.Steepness.{steepness}
 use Rattle.disk.specs.Rows.{read}
 use Rattle.disk.specs.Smoothing.{smoothed}
 use Rattle.disk.specs.Gradients.{values, gradients}

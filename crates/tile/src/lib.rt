@@ -8,7 +8,7 @@ ghost use Rattle.imageview.specs.Sample.{clamped};
 ghost use Rattle.tile.specs.Refusal.{refusal};
 ghost use Rattle.tile.specs.Tile.{Bytes, loaded};
 ghost use Rattle.tile.specs.Picked.{picked, run};
-ghost use Rattle.tile.specs.Width.{edgeOfTile};
+ghost use Rattle.tile.specs.Width.{rootTwoPi, edgeOfTile};
 use imageview::ImageView;
 
 // A width, or document 01's number.
@@ -86,6 +86,13 @@ fn lay_run(samples: &mut [f32; 289], to: usize, pixels: &[u8], start: usize)
     }
 }
 
+// The root of twice pi.
+fn root_two_pi() -> f32
+    ensures { λ r. ⌜ r ≡ rootTwoPi ⌝ }
+{
+    2.5066283
+}
+
 impl PixelTile {
     // The samples of a view about the centre, or a number.
     pub fn load(img: ImageView, centre: [i32; 2]) -> Self
@@ -147,10 +154,10 @@ impl PixelTile {
         disk::across(&rows, &mut smooth);
         let mut on_disk = [0.0f32; 81];
         disk::gradients(&smooth, &mut on_disk);
-        let g = levels::steepness(&on_disk);
+        let g = steepness::steepness(&on_disk);
         if g > 0.0 {
             let v = disk::values(&smooth);
-            return EdgeWidth::Width(levels::contrast(&v) / (2.5066283 * g));
+            return EdgeWidth::Width(levels::contrast(&v) / (root_two_pi() * g));
         }
         EdgeWidth::Refused(9)
     }

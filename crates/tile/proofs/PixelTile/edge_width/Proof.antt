@@ -39,15 +39,20 @@ contrast-requires c κs =
     vals-upto (s .args .t1 .samples) (d .down .last .1 .0) (a .across .last .1 .0) (b .gradients .last .1 .0) (d .down .ensures) (a .across .ensures) (b .gradients .ensures) (s .pre)
     (c .before .values .result) (c .before .values .ensures)
 
+root-two-pi-requires : tie.Need-root-two-pi-requires
+root-two-pi-requires c κs = search needs
+
 returns-2 : tie.Need-returns-2
 returns-2 c =
-    let e = c .before .before .before .before .before in
+    let k = c .before in
+    let e = k .before .before .before .before .before in
     let b = e .before .before in
     let a = b .before .before .before in
     let d = a .before .before .before in
     let s = d .before .before .before .before .before in
     width-is (s .args .t1 .samples) (d .down .last .1 .0) (a .across .last .1 .0) (b .gradients .last .1 .0) (d .down .ensures) (a .across .ensures) (b .gradients .ensures)
-    (e .steepness .result) (e .steepness .ensures) (c .before .before .values .result) (c .contrast .result) (c .before .before .values .ensures) (c .contrast .ensures) (c .before .before .before .before .if2 .taken)
+    (e .steepness .result) (e .steepness .ensures) (k .before .before .values .result) (k .contrast .result) (c .root-two-pi .result)
+    (k .before .before .values .ensures) (k .contrast .ensures) (c .root-two-pi .ensures) (k .before .before .before .before .if2 .taken)
     ∙ taken-is (s .args .t1) (d .before .before .before .before .if1 .left)
 
 returns-3 : tie.Need-returns-3
@@ -72,5 +77,6 @@ edge-width-spec =
     steepness-requires
     values-requires
     contrast-requires
+    root-two-pi-requires
     returns-2
     returns-3)

@@ -4,9 +4,9 @@ use native.Mathlib.Omega.{arith}
 use lib.ListN.{drop}
 use denote.Ref.{now}
 use Rattle.quantile.specs.Rising.{inserted}
-use Rattle.levels.proofs.Largests.{Sliding, stay, slide-start, slide-more, slide-end}
-use Rattle.levels.proofs.insert.Statement.{statement}
-use Rattle.levels.proofs.insert.Tie as tie
+use Rattle.steepness.proofs.Largests.{Sliding, stay, slide-start, slide-more, slide-end}
+use Rattle.steepness.proofs.insert.Statement.{statement}
+use Rattle.steepness.proofs.insert.Tie as tie
 
 abbrev Inv-loop : tie.InvT-loop
 Inv-loop top₀ v first j₀ top j = Sliding (drop 1 (inserted v top₀)) v j top
@@ -38,8 +38,8 @@ mul-x c = omega arith
 element-copy-out-x : tie.Need-element-copy-out-x Inv-loop μ-loop
 element-copy-out-x c = omega arith
 
-between-requires : tie.Need-between-requires Inv-loop μ-loop
-between-requires c κs = tt
+middle-requires : tie.Need-middle-requires Inv-loop μ-loop
+middle-requires c κs = tt
 
 mul-top : tie.Need-mul-top Inv-loop μ-loop
 mul-top c = omega arith
@@ -54,19 +54,19 @@ loop-less : tie.Need-loop-less Inv-loop μ-loop
 loop-less c = omega arith
 
 loop-again : tie.Need-loop-again Inv-loop μ-loop
-loop-again c = slide-more (c .before .before .before .before .loop .inv) (omega arith) (c .between .ensures)
+loop-again c = slide-more (c .before .before .before .before .loop .inv) (omega arith) (c .middle .ensures)
 
 element-copy-out-last : tie.Need-element-copy-out-last Inv-loop μ-loop
 element-copy-out-last c = omega arith
 
-above-requires : tie.Need-above-requires Inv-loop μ-loop
-above-requires c κs = tt
+greater-requires : tie.Need-greater-requires Inv-loop μ-loop
+greater-requires c κs = tt
 
 element-write-top-2 : tie.Need-element-write-top-2 Inv-loop μ-loop
 element-write-top-2 c = omega arith
 
 returns-2 : tie.Need-returns-2 Inv-loop μ-loop
-returns-2 c = slide-end (c .before .before .before .loop .inv) (omega arith) (c .above .ensures)
+returns-2 c = slide-end (c .before .before .before .loop .inv) (omega arith) (c .greater .ensures)
 
 pub insert-spec : {M : Type 1} → statement M
 insert-spec =
@@ -82,13 +82,13 @@ insert-spec =
     add-x
     mul-x
     element-copy-out-x
-    between-requires
+    middle-requires
     mul-top
     element-write-top
     add-j
     loop-less
     loop-again
     element-copy-out-last
-    above-requires
+    greater-requires
     element-write-top-2
     returns-2)

@@ -6,7 +6,7 @@ use lib.Ieee.{Float, binary32, mul, div, round}
 use Rattle.ieee.specs.Sqrt.{sqrt}
 use Rattle.quantile.specs.Rising.{at, rising}
 use Rattle.ieee.specs.Numbers.{f32Of}
-use Rattle.levels.specs.Levels.{total}
+use Rattle.levels.specs.Levels.{summed}
 
 -- the smallest of them first
 unfoldable pub largest : List Float → List Float
@@ -14,4 +14,4 @@ largest g = drop 73 (rising (at g) 81)
 
 -- the roots are added from the smallest up
 unfoldable pub steepness : List Float → Float
-steepness g = div binary32 (mul binary32 (round binary32 false 1 2) (total (map (sqrt binary32) (largest g)))) (f32Of 8)
+steepness g = div binary32 (mul binary32 (round binary32 false 1 2) (summed (map (sqrt binary32) (largest g)))) (f32Of 8)

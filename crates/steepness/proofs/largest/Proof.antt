@@ -2,9 +2,10 @@
 use Prim.Native.Nat.{_-_}
 use native.Mathlib.Omega.{arith}
 use denote.Ref.{now}
-use Rattle.levels.proofs.Largests.{Kept, clear-at, keep-start, kept-rises, keep-put, keep-end}
-use Rattle.levels.proofs.largest.Statement.{statement}
-use Rattle.levels.proofs.largest.Tie as tie
+use Rattle.levels.proofs.Clears.{clear-at}
+use Rattle.steepness.proofs.Largests.{Kept, keep-start, kept-rises, keep-put, keep-end}
+use Rattle.steepness.proofs.largest.Statement.{statement}
+use Rattle.steepness.proofs.largest.Tie as tie
 
 abbrev Inv-loop : tie.InvT-loop
 Inv-loop gradients top₀ m₀ top m = Kept gradients m top

@@ -18,9 +18,10 @@ use Rattle.quantile.proofs.Orders.{below-upto}
 use Rattle.laws.proofs.Choice.{chosen, passed}
 use Rattle.ieee.proofs.TotalOrder.{irreflexive}
 use Rattle.quantile.proofs.Rises.{rises-upto, rising-rises, length-inserted}
 use Rattle.levels.specs.Clear.{clear, AllClear}
-use Rattle.levels.specs.Slide.{above, between}
-use Rattle.levels.specs.Steepness.{largest}
+use Rattle.levels.proofs.Clears.{clear-at, all-clear}
+use Rattle.steepness.specs.Slide.{greater, middle}
+use Rattle.steepness.specs.Steepness.{largest}
 
 -- ---- on clear numbers `<` is the order
 
@@ -44,18 +45,6 @@ less-is (fin false m e) (inf true) p q = absurd q
 less-is (fin false m e) (inf false) p q = refl
 less-is (fin false m e) (fin true n d) p q = absurd q
 less-is (fin false m e) (fin false n d) p q = or-no (lt (fin false m e) (fin false n d)) (level false (m * up e * down d) false (n * up d * down e))
-
-pub clear-at : (l : List Float) → AllClear l → (k : ℕ) → k < length l → T (clear (getD l k nan))
-clear-at [] c k h = absurd (none k h)
-  where
-    none : (k : ℕ) → k < 0 → ⊥
-    none k h = omega arith
-clear-at (x ∷ l) c zero h = c .0
-clear-at (x ∷ l) c (suc k) h = clear-at l (c .1) k (omega arith)
-
-pub all-clear : (l : List Float) → ((k : ℕ) → k < length l → T (clear (getD l k nan))) → AllClear l
-all-clear [] h = tt
-all-clear (x ∷ l) h = (h 0 (omega arith), all-clear l (λ k g. h (suc k) (omega arith)))
 
 clear-inserted : (v : Float) (l : List Float) → T (clear v) → AllClear l → AllClear (inserted v l)
 clear-inserted v [] p c = (p, tt)
@@ -87,14 +76,14 @@ stay v (x ∷ l) e p c h = sym (ap (drop 1) (less-first v x l (less-is v x p (c 
 
 -- the places from the one that holds y on, of which l are the later ones
 abbrev slide : Float → Float → List Float → List Float
-slide v y [] = above v y ∷ []
-slide v y (x ∷ l) = between v y x ∷ slide v x l
+slide v y [] = greater v y ∷ []
+slide v y (x ∷ l) = middle v y x ∷ slide v x l
 
-between-both : (v y x : Float) → lt v x ≡ true → between v y x ≡ above v y
-between-both v y x h = sym (chosen (lt v x) (above v y) x h)
+between-both : (v y x : Float) → lt v x ≡ true → middle v y x ≡ greater v y
+between-both v y x h = sym (chosen (lt v x) (greater v y) x h)
 
-between-past : (v y x : Float) → lt v x ≡ false → between v y x ≡ x
-between-past v y x h = sym (passed (lt v x) (above v y) x h)
+between-past : (v y x : Float) → lt v x ≡ false → middle v y x ≡ x
+between-past v y x h = sym (passed (lt v x) (greater v y) x h)
 
 -- v below the first changes nothing
 slid-below : (v y : Float) (l : List Float) → T (clear v) → AllClear (y ∷ l) → Rises (y ∷ l) → lt v y ≡ true → slide v y l ≡ y ∷ l
@@ -142,7 +131,7 @@ module _ {goal top : List Float} {v : Float} {j : ℕ} (c : Sliding goal v j top
   rest-is : j < 7 → drop (j + 1) top ≡ getD top (j + 1) nan ∷ drop (j + 1 + 1) top
   rest-is h = rw (add-one (j + 1)) (drop-cons top (j + 1) nan (omega (arith, c .long)))
 
-  pub slide-more : j < 7 → {b : Float} → b ≡ between v (getD top j nan) (getD top (j + 1) nan) → Sliding goal v (j + 1) (set top j b)
+  pub slide-more : j < 7 → {b : Float} → b ≡ middle v (getD top j nan) (getD top (j + 1) nan) → Sliding goal v (j + 1) (set top j b)
   slide-more h {b} e = record {
     low = omega arith;
     long = length-set top j b ∙ c .long;
@@ -165,7 +154,7 @@ module _ {goal top : List Float} {v : Float} {j : ℕ} (c : Sliding goal v j top
       next-is : getD (set top j b) (j + 1) nan ≡ getD top (j + 1) nan
       next-is = sym (first (set top j b)) ∙ ap (λ (l : List Float). getD l 0 nan) (drop-set-lt (j + 1) top j b (omega arith)) ∙ first top
 
-  pub slide-end : 7 ≤ j → {b : Float} → b ≡ above v (getD top 7 nan) → set top 7 b ≡ goal
+  pub slide-end : 7 ≤ j → {b : Float} → b ≡ greater v (getD top 7 nan) → set top 7 b ≡ goal
   slide-end h {b} e =
       set-split top 7 b (omega (arith, c .long))
       ∙ ap (λ (l : List Float). take 7 top ++ (b ∷ l)) nothing

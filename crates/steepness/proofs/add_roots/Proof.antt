@@ -7,11 +7,11 @@ use lib.Ieee.{Float, nan, binary32}
 use mathlib.Core.List.{foldl}
 use lib.Ieee.{add}
 use Rattle.ieee.specs.Sqrt.{sqrt}
 use Rattle.levels.proofs.Folds.{Folding, fold-start, fold-put, fold-end, foldl-map}
 use Rattle.levels.proofs.Constants.{zero-is}
 use Rattle.ieee.specs.Numbers.{f32Of}
-use Rattle.levels.proofs.add_roots.Statement.{statement}
-use Rattle.levels.proofs.add_roots.Tie as tie
+use Rattle.steepness.proofs.add_roots.Statement.{statement}
+use Rattle.steepness.proofs.add_roots.Tie as tie
 
 abbrev Inv-loop : tie.InvT-loop
 Inv-loop top sum₀ k₀ sum k = Folding (λ a x. add binary32 a (sqrt binary32 x)) top sum₀ sum k

@@ -1,8 +1,8 @@
 -- The test chooses.
 use lib.Ieee.{lt}
 use Rattle.laws.proofs.Choice.{chosen, passed}
-use Rattle.levels.proofs.above.Statement.{statement}
-use Rattle.levels.proofs.above.Tie as tie
+use Rattle.steepness.proofs.greater.Statement.{statement}
+use Rattle.steepness.proofs.greater.Tie as tie
 
 returns : tie.Need-returns
 returns c = let s = c .before .args in chosen (lt (s .v) (s .y)) (s .y) (s .v) (c .if1 .taken)
@@ -10,5 +10,5 @@ returns c = let s = c .before .args in chosen (lt (s .v) (s .y)) (s .y) (s .v) (
 returns-2 : tie.Need-returns-2
 returns-2 c = let s = c .before .args in passed (lt (s .v) (s .y)) (s .y) (s .v) (c .if1 .left)
 
-pub above-spec : {M : Type 1} → statement M
-above-spec = tie.close (tie.spec returns returns-2)
+pub greater-spec : {M : Type 1} → statement M
+greater-spec = tie.close (tie.spec returns returns-2)
