@@ -4,7 +4,7 @@ ghost use mathlib.Core.Path.{_≡_};
 ghost use lib.Ieee.{binary32, toBits};
 ghost use Rattle.ieee.specs.Order.{larger, smaller, magnitude, finite, totalLess};
 
-// f32::max: the other one where one is a NaN, and a where the two are equal.
+// f32::max: the other one where one is a NaN, and a where the two are equal, -0 and +0 too.
 pub fn max32(a: f32, b: f32) -> f32
     ensures { λ r. ⌜ r ≡ larger a b ⌝ }
 {
@@ -24,7 +24,7 @@ pub fn max64(x: f64, y: f64) -> f64
     if x < y { y } else { x }
 }
 
-// f32::min: the other one where one is a NaN, and a where the two are equal.
+// f32::min: the other one where one is a NaN, and a where the two are equal, -0 and +0 too.
 pub fn min32(a: f32, b: f32) -> f32
     ensures { λ r. ⌜ r ≡ smaller a b ⌝ }
 {

@@ -5,3 +5,4 @@ pub mod Order
 pub mod Floor
 pub mod Rounding
 pub mod Numbers
+pub mod FromZero

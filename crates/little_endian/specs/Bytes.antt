@@ -1,6 +1,7 @@
 -- Little-endian bytes: writing and reading, over their count.
 use Prim.Native.Nat.{ℕ, zero, suc, _+_, _*_, _/_, _%_, _<_}
 use mathlib.Core.List.{List, [], _∷_}
+use Rattle.laws.specs.Lists.{Each}
 
 -- the n low bytes of x, the lowest first
 unfoldable pub bytesOf : ℕ → ℕ → List ℕ
@@ -13,6 +14,5 @@ valueOf [] = 0
 valueOf (b ∷ l) = b + 256 * valueOf l
 
 -- each element is a byte
-unfoldable pub Bytes : List ℕ → Type 0
-Bytes [] = Unit {0}
-Bytes (b ∷ l) = (b < 256) × Bytes l
+abbrev pub Bytes : List ℕ → Type 0
+Bytes l = Each (λ b. b < 256) l

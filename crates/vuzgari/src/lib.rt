@@ -3,14 +3,14 @@ ghost use mathlib.Core.Path.{_≡_};
 ghost use mathlib.Core.List.{[], _∷_};
 ghost use Rattle.grid.specs.Needed.{sizingOf};
 ghost use Rattle.edge.specs.Edge.{edge};
-ghost use Rattle.vuzgari.specs.Codes.{codeOf, widthCode};
+ghost use Rattle.vuzgari.specs.Codes.{sizeCode, widthCode};
 ghost use Rattle.vuzgari.specs.Noise.{noiseOf};
 use tile::EdgeWidth;
 
 // M for an image of w by h, or 4,294,967,296 plus the number of a refusal. The noise call needs 3M i32 and 2M + 2 f32.
 #[no_mangle]
 pub extern "C" fn vuzgari_noise_windows(w: usize, h: usize) -> u64
-    ensures { λ r. ⌜ r ≡ codeOf (sizingOf w h) ⌝ }
+    ensures { λ r. ⌜ r ≡ sizeCode (sizingOf w h) ⌝ }
 {
     let size = grid::sizing(w, h);
     match size {

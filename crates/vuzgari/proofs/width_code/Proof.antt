@@ -1,7 +1,7 @@
 -- The bits of a width, or the number past 2 ^ 32.
 use mathlib.Core.Path.{sym, ap, _∙_}
 use borrow.Author.Needs.{needs}
-use Rattle.vuzgari.specs.Codes.{numberCode, widthCode}
+use Rattle.vuzgari.specs.Codes.{codeOf, widthCode}
 use Rattle.vuzgari.proofs.width_code.Statement.{statement}
 use Rattle.vuzgari.proofs.width_code.Tie as tie
 
@@ -27,7 +27,7 @@ returns : tie.Need-returns
 returns c = c .wide .ensures ∙ c .before .bits32 .ensures ∙ ap widthCode (sym (c .before .before .before .e .given .1))
 
 returns-2 : tie.Need-returns-2
-returns-2 c = ap numberCode (c .wide2 .ensures) ∙ ap widthCode (sym (c .before .before .e2 .given .1))
+returns-2 c = ap codeOf (c .wide2 .ensures) ∙ ap widthCode (sym (c .before .before .e2 .given .1))
 
 pub width-code-spec : {M : Type 1} → statement M
 width-code-spec =
