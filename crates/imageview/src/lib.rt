@@ -82,18 +82,3 @@ impl<'a> ImageView<'a> {
         sample_at(self.pixels, self.width, self.height, self.origin, x, y)
     }
 }
-
-// The sample at (x, y) of the view of a slice, for a caller that has no view.
-pub fn view_sample(
-    pixels: &[u8],
-    width: usize,
-    height: usize,
-    origin: [i32; 2],
-    x: i32,
-    y: i32,
-) -> f32
-    requires { ⌜ length (now pixels) ≡ width * height ⌝ }
-    ensures { λ r. ⌜ r ≡ sample (now (pixels .entry)) width height origin x y ⌝ }
-{
-    ImageView::with_origin(width, height, pixels, origin).sample(x, y)
-}
