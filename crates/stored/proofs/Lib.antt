@@ -4,3 +4,4 @@ pub mod Bytes
 pub mod Counts
 pub mod Hex
 pub mod Patterns
+pub mod Signs

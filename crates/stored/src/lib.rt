@@ -11,6 +11,7 @@ ghost use mathlib.Core.Path.{_≡_};
 ghost use Prim.Native.Nat.{_+_, _*_, _<_, _≤_};
 ghost use lib.ListN.{length};
 ghost use Rattle.stored.specs.Lines.{isDigit, isLetter, digitOf, written, widthOf, belongs, isLine, agreesAt, hitAt};
+ghost use Rattle.stored.specs.Floats.{single, signed};
 ghost use Rattle.stored.specs.Lines.{countOf, linesOf, letterAt, numberAt};
 
 fn is_digit(c: u8) -> bool
@@ -146,6 +147,22 @@ pub fn number(text: &[u8], columns: u8, i: usize, j: u8) -> u64
     column(text, i * width(columns) + (j as usize) * 17 + 2)
 }
 
+// The f32 in column j of line i.
+pub fn float_in(text: &[u8], columns: u8, i: usize, j: u8) -> f32
+    ensures { λ r. ⌜ r ≡ single (numberAt (now (text .entry)) columns i j) ⌝ }
+{
+    floats::to_single(number(text, columns, i, j))
+}
+
+// The whole number in column j of line i.
+pub fn int_in(text: &[u8], columns: u8, i: usize, j: u8) -> i32
+    ensures { λ r. ⌜ r ≡ signed (numberAt (now (text .entry)) columns i j) ⌝ }
+{
+    let b = number(text, columns, i, j) % 0x1_0000_0000;
+    let size = (b % 0x8000_0000) as i32;
+    if b < 0x8000_0000 { size } else { 0 - size }
+}
+
 // How many lines have the letter and agree, or do not, as `good` says.
 pub fn count(text: &[u8], columns: u8, letter: u8, good: bool) -> usize
     ensures { λ r. ⌜ r ≡ countOf (now (text .entry)) columns letter good ⌝ }
@@ -187,4 +204,16 @@ pub fn report_lines(text: &[u8], columns: u8) {
     io::write_all(STDOUT_FILENO, b" lines, ");
     io::print_decimal(STDOUT_FILENO, (text.len() % width) as u64);
     io::write_all(STDOUT_FILENO, b" bytes over\n");
+}
+
+// Writes a blank and the number in decimal.
+pub fn report_number(n: u64) {
+    io::write_all(STDOUT_FILENO, b" ");
+    io::print_decimal(STDOUT_FILENO, n);
+}
+
+// Writes a blank and x's pattern in eight hexadecimal digits.
+pub fn report_float(x: f32) {
+    io::write_all(STDOUT_FILENO, b" ");
+    io::print_hex(STDOUT_FILENO, floats::of_single(x), 8);
 }
