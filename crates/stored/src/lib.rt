@@ -206,10 +206,11 @@ pub fn report_lines(text: &[u8], columns: u8) {
     io::write_all(STDOUT_FILENO, b" bytes over\n");
 }
 
-// Writes a blank and the number in decimal.
-pub fn report_number(n: u64) {
+// Writes the name of a call and the number that it answers.
+pub fn report_answer(name: &[u8], number: u32) {
+    io::write_all(STDOUT_FILENO, name);
     io::write_all(STDOUT_FILENO, b" ");
-    io::print_decimal(STDOUT_FILENO, n);
+    io::print_decimal(STDOUT_FILENO, number as u64);
 }
 
 // Writes a blank and x's pattern in eight hexadecimal digits.
