@@ -5,7 +5,8 @@ use mathlib.Core.List.{List, _++_}
 use native.Mathlib.Omega.{arith}
 use lib.ListN.{length, getD, take, drop}
 use Rattle.laws.proofs.Fill.{Rows, rows-start, rows-put, rows-end}
-use Rattle.little_endian.specs.Bytes.{bytesOf, laid}
+use Rattle.laws.specs.Lists.{laid}
+use Rattle.little_endian.specs.Bytes.{bytesOf}
 use Rattle.little_endian.proofs.Laws.{length-bytes}
 use Rattle.answer.specs.Fields.{bytesOfWords}
 

@@ -3,7 +3,6 @@ ghost use mathlib.Core.Path.{_≡_};
 ghost use mathlib.Core.List.{_++_};
 ghost use Prim.Native.Nat.{_≤_};
 ghost use lib.ListN.{length, drop};
-ghost use lib.Ieee.{binary32, toBits};
 ghost use Rattle.answer.specs.Fields.{wordsOf, bytesOfWords, answerBytes};
 
 pub struct Answer {
@@ -23,27 +22,11 @@ pub struct Answer {
     pub passes: u32,
 }
 
-fn wide(x: u32) -> u64
-    ensures { λ r. ⌜ r ≡ x ⌝ }
-{
-    x as u64
-}
-
-// The bits of x, and those of the quiet NaN for any NaN.
-fn bits(x: f32) -> u32
-    ensures { λ r. ⌜ r ≡ toBits binary32 x ⌝ }
-{
-    if x != x {
-        return 0x7fc0_0000;
-    }
-    f32::to_bits(x)
-}
-
 // The ten fields in document 01's order, sigma by its bits.
 pub fn words(a: Answer) -> [u32; 10]
     ensures { λ r. ⌜ r ≡ wordsOf a ⌝ }
 {
-    let sigma = bits(a.sigma);
+    let sigma = float::bits32(a.sigma);
     [
         a.number,
         sigma,
@@ -66,7 +49,7 @@ fn put_words(out: &mut [u8], words: [u32; 10])
     let mut k = 0;
     while k < 10 {
         let x = words[k];
-        little_endian::put(out, k * 4, 4, wide(x));
+        little_endian::put(out, k * 4, 4, laws::wide(x));
         k += 1;
     }
 }

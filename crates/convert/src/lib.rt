@@ -1,4 +1,4 @@
-// An f64 as an f32, and an f32 cut to a whole number.
+// An f64 as an f32, and an f32 rounded down to a whole number.
 ghost use mathlib.Core.Path.{_≡_};
 ghost use Prim.Native.Nat.{_^_, _<_, _≤_};
 ghost use lib.Ieee as Ieee;
@@ -65,7 +65,7 @@ pub fn to_f32(x: f64) -> f32
     }
 }
 
-// f32::floor: the whole number next below x, by its 24 digits cut at p.
+// f32::floor: the greatest whole number that is not above x, by its 24 digits over p.
 pub fn floor32(x: f32) -> f32
     ensures { λ r. ⌜ r ≡ floor binary32 x ⌝ }
 {

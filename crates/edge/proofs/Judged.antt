@@ -11,7 +11,8 @@ use lib.IntN.{ℤ, pos, natAbs}
 use lib.Ieee.{Float, nan}
 use Rattle.laws.proofs.Choice.{cond-both, chosen}
 use Rattle.imageview.specs.Sample.{pixel}
-use Rattle.imageview.specs.Limits.{tooLarge, misfit, imageNumber, far, farPlace}
+use Rattle.limits.specs.Limits.{tooLarge, otherLength, imageNumber, farPlace}
+use Rattle.limits.proofs.Laws.{not-refused, as-long}
 use Rattle.levels.specs.Whole.{Upto}
 use Rattle.disk.specs.Rows.{inRows, read}
 use Rattle.disk.specs.Smoothing.{smoothed}
@@ -22,35 +23,22 @@ use Rattle.disk.proofs.Places.{read-rows, smooth-same}
 use Rattle.tile.proofs.Edges.{edge-same}
 use Rattle.edge.specs.Edge.{measured, edge}
 
--- a place that is not far off
-pub near : (p : List ℤ) → farPlace p ≡ false → (natAbs (getD p 0 (pos 0)) ≤ 1000000) × (natAbs (getD p 1 (pos 0)) ≤ 1000000)
-near p h = go (far (getD p 0 (pos 0))) refl h
-  where
-    go : (b : Bool) → far (getD p 0 (pos 0)) ≡ b → (b || far (getD p 1 (pos 0))) ≡ false → (natAbs (getD p 0 (pos 0)) ≤ 1000000) × (natAbs (getD p 1 (pos 0)) ≤ 1000000)
-    go true e h = absurd (let q : _≡_ {A = ℕ} 0 1 = cc in omega arith)
-    go false e h = (ltb-false 1000000 (natAbs (getD p 0 (pos 0))) e, ltb-false 1000000 (natAbs (getD p 1 (pos 0))) h)
-
 module _ (l : List ℕ) (w h : ℕ) (origin centre : List ℤ) {r : ℕ} (e : r ≡ imageNumber (length l) w h) where
   pub refused-is : (r ≡ 0 → ⊥) → number r ≡ edge l w h origin centre
   unfolding edge
-  refused-is n = go (tooLarge w h) (misfit (length l) w h) refl refl
+  refused-is n = go (tooLarge w h) (otherLength (length l) w h) refl refl
     where
-      go : (t m : Bool) → tooLarge w h ≡ t → misfit (length l) w h ≡ m → number r ≡ edge l w h origin centre
+      go : (t m : Bool) → tooLarge w h ≡ t → otherLength (length l) w h ≡ m → number r ≡ edge l w h origin centre
       go true m p q = rw p (ap number (rw p at e))
       go false true p q = rw (p, q) (ap number (rw (p, q) at e))
       go false false p q = absurd (n (rw (p, q) at e))
 
   module _ (z : r ≡ 0) where
-    fitting : (tooLarge w h ≡ false) × (misfit (length l) w h ≡ false)
-    fitting = go (tooLarge w h) (misfit (length l) w h) (sym e ∙ z)
-      where
-        go : (t m : Bool) → _≡_ {A = ℕ} (cond t 1 (cond m 2 0)) 0 → (t ≡ false) × (m ≡ false)
-        go true m g = absurd (let q : _≡_ {A = ℕ} 1 0 = g in omega arith)
-        go false true g = absurd (let q : _≡_ {A = ℕ} 2 0 = g in omega arith)
-        go false false g = (refl, refl)
+    fitting : (tooLarge w h ≡ false) × (otherLength (length l) w h ≡ false)
+    fitting = not-refused (length l) w h (sym e ∙ z)
 
     pub long-is : length l ≡ w * h
-    long-is = eqb-true (length l) (w * h) (not-false (eqb (length l) (w * h)) (fitting .1))
+    long-is = as-long (length l) w h (sym e ∙ z)
 
     pub centre-far : farPlace centre ≡ true → number 8 ≡ edge l w h origin centre
     unfolding edge

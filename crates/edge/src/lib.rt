@@ -16,24 +16,18 @@ pub fn edge_width(
 ) -> EdgeWidth
     ensures { λ r. ⌜ answer r ≡ edge (now (pixels .entry)) width height origin centre ⌝ }
 {
-    let refused = imageview::judge(pixels, width, height);
+    let refused = limits::judge(pixels.len(), width, height);
     if refused != 0 {
         return EdgeWidth::Refused(refused);
     }
-    if imageview::far_place(centre) {
+    if limits::far_place(centre) {
         return EdgeWidth::Refused(8);
     }
-    if imageview::far_place(origin) {
+    if limits::far_place(origin) {
         return EdgeWidth::Refused(8);
     }
     let tile = PixelTile::load(pixels, width, height, origin, centre);
     tile.edge_width()
-}
-
-fn wide(x: u32) -> u64
-    ensures { λ r. ⌜ r ≡ x ⌝ }
-{
-    x as u64
 }
 
 // An answer as one number.
@@ -41,12 +35,7 @@ pub fn code(e: EdgeWidth) -> u64
     ensures { λ r. ⌜ r ≡ Code.code (answer e) ⌝ }
 {
     match e {
-        EdgeWidth::Width(x) => {
-            if x != x {
-                return 0x7fc0_0000;
-            }
-            wide(f32::to_bits(x))
-        }
-        EdgeWidth::Refused(n) => 4294967296 + wide(n),
+        EdgeWidth::Width(x) => laws::wide(float::bits32(x)),
+        EdgeWidth::Refused(n) => 4294967296 + laws::wide(n),
     }
 }

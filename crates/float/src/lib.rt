@@ -1,9 +1,10 @@
 // The operations of Rust's f32 and f64 that Rattle's casts and operators lack. Each answers for every
 // input, and its result is what a definition of the crate `ieee` gives.
 ghost use mathlib.Core.Path.{_≡_};
+ghost use lib.Ieee.{binary32, toBits};
 ghost use Rattle.ieee.specs.Order.{larger, smaller, magnitude, finite, totalLess};
 
-// f32::max: the other one where one is a NaN, and a where the two are equal.
+// f32::max: the other one where one is a NaN, and a where the two are equal, -0 and +0 too.
 pub fn max32(a: f32, b: f32) -> f32
     ensures { λ r. ⌜ r ≡ larger a b ⌝ }
 {
@@ -23,7 +24,7 @@ pub fn max64(x: f64, y: f64) -> f64
     if x < y { y } else { x }
 }
 
-// f32::min: the other one where one is a NaN, and a where the two are equal.
+// f32::min: the other one where one is a NaN, and a where the two are equal, -0 and +0 too.
 pub fn min32(a: f32, b: f32) -> f32
     ensures { λ r. ⌜ r ≡ smaller a b ⌝ }
 {
@@ -91,4 +92,14 @@ pub fn total_less64(x: f64, y: f64) -> bool
         return f64::to_bits(x) >= 0x8000_0000_0000_0000 && f64::to_bits(y) < 0x8000_0000_0000_0000;
     }
     false
+}
+
+// f32::to_bits, and the pattern of the quiet NaN for every NaN.
+pub fn bits32(x: f32) -> u32
+    ensures { λ r. ⌜ r ≡ toBits binary32 x ⌝ }
+{
+    if x != x {
+        return 0x7fc0_0000;
+    }
+    f32::to_bits(x)
 }

@@ -2,4 +2,4 @@ pub mod Steps
 pub mod Counts
 pub mod Places
 pub mod Memory
-pub mod Known
+pub mod Examples

@@ -1,15 +1,20 @@
 -- M holds either pass, and is no more than one of them asks for; each case of the sizing call's answer says its own. Assumes nothing.
-use mathlib.Core.Path.{_≡_, refl, sym, ap, _∙_}
+use mathlib.Core.Path.{_≡_, refl, ap, _∙_, subst}
 use mathlib.Core.Bool.{Bool, true, false, cond}
+use mathlib.Core.Logic.{_↔_}
 use Prim.Native.Nat.{ℕ, _*_, _≤_, _<_, max}
 use native.Mathlib.Omega.{arith}
-use borrow.Author.Tests.{eq-eqb, ne-eqb, eqb-false, lt-ltb, le-ltb}
+use borrow.Author.Tests.{eq-eqb, ne-eqb, eqb-true, eqb-false, le-ltb}
 use lib.Dec.{eqb}
+use lib.ListN.{length}
+use Rattle.laws.specs.Lists.{joined}
 use Rattle.laws.proofs.Choice.{chosen, passed}
+use Rattle.limits.specs.Limits.{tooLarge, tooSmall}
+use Rattle.limits.proofs.Laws.{not-large, not-small}
 use Rattle.grid.specs.Step.{stepOf}
-use Rattle.grid.specs.Grid.{Sides, totalOf}
-use Rattle.grid.specs.Needed.{firstW, secondW, neededOf, Reading, reading, sizingOf}
-use Rattle.grid.specs.declared.Size.{Size}
+use Rattle.grid.specs.Grid.{Sides, rowOf, rowsOf, placesOf, totalOf}
+use Rattle.grid.specs.Needed.{firstW, secondW, neededOf, sizingOf}
+use Rattle.grid.proofs.Steps.{step-is, step-unique}
 use Rattle.grid.specs.declared.Size.the-variants.{Windows, SideAbove, SideBelow}
 
 module _ (w h : ℕ) where
@@ -42,36 +47,52 @@ module _ (w h : ℕ) where
       go true e = f
       go false e = omega (arith, f, g (eqb-false (stepOf (w * h) firstW) 1 e))
 
+-- where the step of the first pass is 1 so is that of the second, and both have the same windows: M is the larger T in any case
+pub needed-max : (w h : ℕ) → neededOf w h ≡ max (totalOf w h firstW) (totalOf w h secondW)
+unfolding neededOf placesOf
+needed-max w h = go (eqb (stepOf (w * h) firstW) 1) refl
+  where
+    one : stepOf (w * h) firstW ≡ 1 → 1 ≡ stepOf (w * h) secondW
+    one e =
+        step-unique
+        (record {
+          some = omega arith;
+          reaches = omega (arith, subst (λ (s : ℕ). w * h ≤ s * s * firstW) e (step-is (w * h) firstW (omega arith) .reaches));
+          least = λ t a b. absurd (none t a b);
+        })
+        (step-is (w * h) secondW (omega arith))
+      where
+        none : (t : ℕ) → 1 ≤ t → t < 1 → ⊥
+        none t a b = omega arith
+
+    go : (b : Bool) → eqb (stepOf (w * h) firstW) 1 ≡ b
+        → cond b (totalOf w h firstW) (max (totalOf w h firstW) (totalOf w h secondW)) ≡ max (totalOf w h firstW) (totalOf w h secondW)
+    go true e =
+        let k : stepOf (w * h) firstW ≡ 1 = eqb-true (stepOf (w * h) firstW) 1 e in
+        omega (arith, ap (λ (s : ℕ). length (joined (rowOf w s) 0 (rowsOf h s))) (k ∙ one k))
+    go false e = refl
+
 -- ---- the sizing call's answer
 
--- an answer is told by its reading
-pub told : (a b : Size) → reading a ≡ reading b → a ≡ b
-told a b e = sym (back a) ∙ ap answer e ∙ back b
-  where
-    answer : Reading → Size
-    answer r = cond (eqb (r .number) 0) (Windows (r .figure)) (cond (eqb (r .number) 1) SideAbove SideBelow)
+-- the sides that a pass takes are those that neither 1 nor 3 refuses
+pub sides-taken : (w h : ℕ) → Sides w h ↔ ((tooLarge w h ≡ false) × (tooSmall w h ≡ false))
+sides-taken w h = (
+  λ s. (rw (le-ltb 16384 w (s .w-most), le-ltb 16384 h (s .h-most)) refl, rw (le-ltb w 4 (s .wide), le-ltb h 4 (s .high)) refl),
+  λ e.
+      let l = not-large w h (e .0) in
+      let m = not-small w h (e .1) in
+      record { wide = m .0; high = m .1; w-most = l .0; h-most = l .1 },
+)
 
-    back : (a : Size) → answer (reading a) ≡ a
-    back (Windows m) = refl
-    back SideAbove = refl
-    back SideBelow = refl
+module _ (w h : ℕ) where
+  pub above : tooLarge w h ≡ true → SideAbove ≡ sizingOf w h
+  unfolding sizingOf
+  above e = chosen (tooLarge w h) SideAbove (cond (tooSmall w h) SideBelow (Windows (neededOf w h))) e
 
-pub above-w : (w h : ℕ) → 16384 < w → record { number = 1; figure = 0 } ≡ sizingOf w h
-unfolding sizingOf
-above-w w h a = rw (lt-ltb 16384 w a) refl
+  pub below : tooLarge w h ≡ false → tooSmall w h ≡ true → SideBelow ≡ sizingOf w h
+  unfolding sizingOf
+  below e f = rw (e, f) refl
 
-pub above-h : (w h : ℕ) → w ≤ 16384 → 16384 < h → record { number = 1; figure = 0 } ≡ sizingOf w h
-unfolding sizingOf
-above-h w h a b = rw (le-ltb 16384 w a, lt-ltb 16384 h b) refl
-
-pub below-w : (w h : ℕ) → w ≤ 16384 → h ≤ 16384 → w < 4 → record { number = 3; figure = 0 } ≡ sizingOf w h
-unfolding sizingOf
-below-w w h a b c = rw (le-ltb 16384 w a, le-ltb 16384 h b, lt-ltb w 4 c) refl
-
-pub below-h : (w h : ℕ) → w ≤ 16384 → h ≤ 16384 → 4 ≤ w → h < 4 → record { number = 3; figure = 0 } ≡ sizingOf w h
-unfolding sizingOf
-below-h w h a b c d = rw (le-ltb 16384 w a, le-ltb 16384 h b, le-ltb w 4 c, lt-ltb h 4 d) refl
-
-pub sized : (w h : ℕ) → Sides w h → record { number = 0; figure = neededOf w h } ≡ sizingOf w h
-unfolding sizingOf
-sized w h s = rw (le-ltb 16384 w (s .w-most), le-ltb 16384 h (s .h-most), le-ltb w 4 (s .wide), le-ltb h 4 (s .high)) refl
+  pub sized : tooLarge w h ≡ false → tooSmall w h ≡ false → Windows (neededOf w h) ≡ sizingOf w h
+  unfolding sizingOf
+  sized e f = rw (e, f) refl

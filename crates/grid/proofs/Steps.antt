@@ -7,7 +7,7 @@ use native.Mathlib.Nat.{eq-or-lt-of-le, le-antisymm, mul-le-mul, mul-le-mul-left
 use native.Mathlib.Omega.{arith}
 use borrow.Author.Tests.{leb-true, leb-false}
 use lib.Dec.{leb}
-use Rattle.grid.specs.Step.{firstFrom, stepOf}
+use Rattle.grid.specs.Step.{IsStep, firstFrom, stepOf}
 use Rattle.grid.specs.Grid.{Sides}
 
 -- ---- the first number that passes a test
@@ -42,11 +42,6 @@ first-is p k (suc n) = go (first-is p (suc k) n) (p k) refl
         }
 
 -- ---- the step
-
-pub record IsStep (pixels windows s : ℕ) : Type 0 where
-  pub some : 1 ≤ s
-  pub reaches : pixels ≤ s * s * windows
-  pub least : (t : ℕ) → 1 ≤ t → t < s → t * t * windows < pixels
 
 ample : (s windows : ℕ) → 1 ≤ s → 1 ≤ windows → s ≤ s * s * windows
 ample s m h g = omega (arith, mul-le-mul-left s h, mul-le-mul-left (s * s) g)

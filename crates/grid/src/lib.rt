@@ -4,12 +4,12 @@ ghost use mathlib.Core.Path.{_≡_};
 ghost use Prim.Native.Nat.{_+_, _*_, _<_, _≤_, _^_};
 ghost use Rattle.grid.specs.Step.{stepOf};
 ghost use Rattle.grid.specs.Grid.{Sides, countBelow, firstX, rowCount, rowsOf, totalOf};
-ghost use Rattle.grid.specs.Needed.{neededOf, reading, sizingOf};
+ghost use Rattle.grid.specs.Needed.{neededOf, sizingOf};
 
 // W of the first pass: about this many windows are sampled.
 pub const WINDOWS: usize = 8192;
 // W of the second pass.
-pub const DENSE: usize = 4 * WINDOWS;
+pub const DENSE: usize = 32_768;
 
 // The least whole step, 1 or more, whose square times `windows` reaches the number of pixels.
 pub fn step(w: usize, h: usize, windows: usize) -> usize
@@ -100,18 +100,12 @@ pub enum Size {
 
 // The work memory that the noise call needs for an image of w by h.
 pub fn sizing(w: usize, h: usize) -> Size
-    ensures { λ r. ⌜ reading r ≡ sizingOf w h ⌝ }
+    ensures { λ r. ⌜ r ≡ sizingOf w h ⌝ }
 {
-    if w > 16_384 {
+    if limits::too_large(w, h) {
         return Size::SideAbove;
     }
-    if h > 16_384 {
-        return Size::SideAbove;
-    }
-    if w < 4 {
-        return Size::SideBelow;
-    }
-    if h < 4 {
+    if limits::too_small(w, h) {
         return Size::SideBelow;
     }
     Size::Windows(needed(w, h))

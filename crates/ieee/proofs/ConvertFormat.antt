@@ -1,5 +1,5 @@
 -- `convert` is IEEE 754-2019's convertFormat (section 5.4.2): a finite number's exact value is rounded by roundTiesToEven (`convert-rounds`), and nothing else is what that asks (`convert-only`).
--- So the value of the format next to it, with its sign, and an infinity from 2 ^ emax * (2 - 2 ^ -prec) on; a value that the format holds stays (`convert-same`), as zeros, infinities and NaN do.
+-- So the value of the format nearest to it, with its sign, and an infinity from 2 ^ emax * (2 - 2 ^ -prec) on; a value that the format holds stays (`convert-same`), as zeros, infinities and NaN do.
 use mathlib.Core.Path.{_≡_, refl, sym, ap, _∙_, subst}
 use mathlib.Core.Logic.{inl, inr}
 use mathlib.Core.Bool.{Bool, not}

@@ -1,11 +1,13 @@
 -- The definitions are the standard's and Rust's.
 pub mod RoundsToEven
 pub mod ConvertFormat
+pub mod ConvertFromInt
 pub mod SquareRoot
 pub mod TowardNegative
 pub mod TotalOrder
 pub mod MaxMin
 pub mod Classes
+pub mod FromZero
 -- What these rest on.
 pub mod Naturals
 pub mod Roots
@@ -17,6 +19,10 @@ pub mod ExactSizes
 pub mod Distance
 pub mod Comparing
 pub mod Cuts
+pub mod Bounded
+pub mod BoundedRounding
+pub mod BoundedOperations
+pub mod BoundedPatterns
 -- What proofs of code cite, besides.
 pub mod Tests
 pub mod Reading

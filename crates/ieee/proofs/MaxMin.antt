@@ -1,4 +1,4 @@
--- `larger` and `smaller` give one of their operands, not below (above) either, the other one beside a NaN, and the first of two that are equal: so which of -0 and +0 comes back is up to their order.
+-- `larger` and `smaller` give one of their operands, not below (above) either, the other one beside a NaN, and the first of two that are equal, -0 and +0 among them.
 -- Both pick the second operand only where a relation R says that it is past the first; R is `<` for `larger` and `>` for `smaller`.
 use mathlib.Core.Path.{_≡_, refl, sym, ap, _∙_}
 use mathlib.Core.Logic.{_⊎_, inl, inr}

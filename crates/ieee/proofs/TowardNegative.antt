@@ -1,16 +1,16 @@
 -- `floor` is IEEE 754-2019's roundToIntegralTowardNegative (section 5.9): of a finite number of the format it is the greatest whole number that is at most that, with the same sign
--- (`floor-rounds`). Zeros, infinities and NaN stay.
+-- (`floor-rounds`), and nothing else is what that asks (`floor-only`). Zeros, infinities and NaN stay.
 use mathlib.Core.Path.{_≡_, refl, sym, ap, _∙_, subst}
 use mathlib.Core.Bool.{Bool, true, false}
 use Prim.Native.Nat.{ℕ, suc, _+_, _*_, _^_, _≤_, _<_}
-use native.Mathlib.Nat.{le-trans, le-of-eq, le-of-lt, le-of-suc-le-suc, lt-of-lt-of-le, lt-of-le-of-lt, mul-one, lt-of-mul-lt-mul-right, mul-le-mul-right, zero-mul}
+use native.Mathlib.Nat.{le-trans, le-antisymm, le-of-eq, le-of-lt, le-of-suc-le-suc, lt-of-lt-of-le, lt-of-le-of-lt, mul-one, lt-of-mul-lt-mul-right, mul-le-mul-right, zero-mul}
 use native.Mathlib.Omega.{arith}
 use lib.Dec.{T, eqb, le→leb, leb→le, eqb→eq}
 use lib.IntN.{ℤ, pos, negsuc}
 use lib.Pow.{pow-pos}
 use lib.Ieee.{Float, nan, inf, fin, Format, binary32, binary64, up, down, round, fits}
 use lib.Ieee.Fits.{down-pos, round-fits, and-l, and-r, and-i, eq→eqb}
-use lib.Ieee.Back.{round-whole}
+use lib.Ieee.Back.{round-whole, whole-unique}
 use lib.Ieee.Exact.{HasValue}
 use Rattle.ieee.specs.Floor.{cut, floor, RoundTowardNegative}
 use Rattle.ieee.proofs.Cuts.{Between, cut-between, cut-le}
@@ -85,6 +85,40 @@ module _ (f : Format) (s : Bool) where
               (above-none (m * up e) (down e) n (down-pos e) s (w .0) (w .1) b (subst T (le-is y x (w .0) s (w .1 * down e) (m * up e) (down e) (down-pos e) (widened y (w .0) (w .1) (w .2)) (refl, refl)) h));
           sign = value-negative r s n 1 v ∙ sym (value-negative x s (m * up e) (down e) (refl, refl));
         }
+
+-- ---- and nothing else is: two answers are each at most the other, and have x's sign, so one size
+one-size : (s : Bool) (j k : ℕ) → T (upTo s j s k) → T (upTo s k s j) → j ≡ k
+one-size false j k a b = le-antisymm (leb→le j k a) (leb→le k j b)
+one-size true j k a b = le-antisymm (leb→le j k b) (leb→le k j a)
+
+module _ (f : Format) (x y z : Float) (A : RoundTowardNegative f x y) (B : RoundTowardNegative f x z) where
+  one-answer : y ≡ z
+  one-answer = whole-unique f y z s j (A .held) (B .held) v (subst (λ (n : ℕ). HasValue z s n 1) (sym same) w)
+    where
+      s : Bool
+      s = A .whole .0
+
+      j : ℕ
+      j = A .whole .1
+
+      k : ℕ
+      k = B .whole .1
+
+      v : HasValue y s j 1
+      v = A .whole .2
+
+      w : HasValue z s k 1
+      w =
+          subst (λ (b : Bool). HasValue z b k 1)
+          (sym (value-negative z (B .whole .0) k 1 (B .whole .2)) ∙ B .sign ∙ sym (A .sign) ∙ value-negative y s j 1 v) (B .whole .2)
+
+      same : j ≡ k
+      same =
+          one-size s j k (subst T (le-is y z s s j k 1 (pow-pos 0) v w) (B .greatest y (A .whole) (A .below)))
+          (subst T (le-is z y s s k j 1 (pow-pos 0) w v) (A .greatest z (B .whole) (B .below)))
+
+pub floor-only : (f : Format) (s : Bool) (m : ℕ) (e : ℤ) → T (fits f (fin s m e)) → (y : Float) → RoundTowardNegative f (fin s m e) y → y ≡ floor f (fin s m e)
+floor-only f s m e F y A = one-answer f (fin s m e) y (floor f (fin s m e)) A (floor-rounds f s m e F)
 
 -- ---- specials
 module _ (f : Format) where

@@ -1,4 +1,4 @@
--- The whole number next below a float: IEEE 754-2019, section 5.9, roundToIntegralTowardNegative.
+-- The greatest whole number that is not above a float: IEEE 754-2019, section 5.9, roundToIntegralTowardNegative.
 use Prim.Native.Nat.{ℕ, _+_, _-_, _*_, _/_}
 use mathlib.Core.Path.{_≡_}
 use mathlib.Core.Bool.{Bool, cond}
@@ -7,7 +7,7 @@ use lib.Ieee.{Float, nan, inf, fin, Format, up, down, round, le, fits}
 use lib.Ieee.Exact.{HasValue}
 use Rattle.ieee.specs.Order.{negative}
 
--- num / den cut to a whole number: downward, or upward as the size of a negative number
+-- the size of the greatest whole number not above num / den, or, where s is true, not above -(num / den): num / den down, or up
 abbrev pub cut : Bool → ℕ → ℕ → ℕ
 cut s num den = (num + cond s (den - 1) 0) / den
 

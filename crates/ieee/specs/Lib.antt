@@ -4,3 +4,5 @@ pub mod Sqrt
 pub mod Order
 pub mod Floor
 pub mod Rounding
+pub mod Numbers
+pub mod FromZero

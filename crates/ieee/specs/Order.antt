@@ -2,12 +2,12 @@
 use mathlib.Core.Bool.{Bool, true, false, cond, not, _&&_, _||_}
 use lib.Ieee.{Float, nan, inf, fin, lt, eq, isNan}
 
--- Rust's f32::max and f64::max: the other one where one is a NaN, and the second only where it is above the first.
+-- Rust's f32::max and f64::max: the other one where one is a NaN, and the second only where it is above the first. So of -0 and +0 it is the first, which Rust leaves open.
 unfoldable pub larger : Float → Float → Float
 unfolding isNan lt
 larger a b = cond (isNan a) b (cond (lt a b) b a)
 
--- Rust's f32::min and f64::min: the other one where one is a NaN, and the second only where it is below the first.
+-- Rust's f32::min and f64::min: the other one where one is a NaN, and the second only where it is below the first. So of -0 and +0 it is the first, which Rust leaves open.
 unfoldable pub smaller : Float → Float → Float
 unfolding isNan lt
 smaller a b = cond (isNan a) b (cond (lt b a) b a)

@@ -5,43 +5,6 @@ ghost use lib.ListN.{length};
 ghost use lib.IntN.{pos, _+ℤ_};
 ghost use mathlib.Core.List.{[], _∷_};
 ghost use Rattle.imageview.specs.Sample.{clamped, sample};
-ghost use Rattle.imageview.specs.Limits.{imageNumber, farPlace, far as isFar};
-
-// 1 or 2 where document 01 refuses an image of these sides and pixels, else 0.
-pub fn judge(pixels: &[u8], width: usize, height: usize) -> u32
-    ensures { λ r. ⌜ r ≡ imageNumber (length (now (pixels .entry))) width height ⌝ }
-{
-    if width > 16384 {
-        return 1;
-    }
-    if height > 16384 {
-        return 1;
-    }
-    if pixels.len() != width * height {
-        return 2;
-    }
-    0
-}
-
-// Whether v is beyond ±1,000,000.
-pub fn far(v: i32) -> bool
-    ensures { λ r. ⌜ r ≡ isFar v ⌝ }
-{
-    if v < -1_000_000 {
-        return true;
-    }
-    v > 1_000_000
-}
-
-// Whether a part of a place is beyond ±1,000,000.
-pub fn far_place(place: [i32; 2]) -> bool
-    ensures { λ r. ⌜ r ≡ farPlace place ⌝ }
-{
-    if far(place[0]) {
-        return true;
-    }
-    far(place[1])
-}
 
 // The whole number of 0 to most that is nearest to v + o.
 pub fn place(v: i32, o: i32, most: usize) -> usize

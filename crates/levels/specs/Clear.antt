@@ -1,8 +1,9 @@
 -- Floats that are numbers with the sign clear, an infinity among them: what a square is.
 use mathlib.Core.Bool.{Bool, false, not}
-use mathlib.Core.List.{List, [], _∷_}
+use mathlib.Core.List.{List}
 use lib.Dec.{T}
 use lib.Ieee.{Float, nan, inf, fin}
+use Rattle.laws.specs.Lists.{Each}
 
 abbrev pub clear : Float → Bool
 clear nan = false
@@ -10,5 +11,4 @@ clear (inf s) = not s
 clear (fin s m e) = not s
 
 abbrev pub AllClear : List Float → Type 0
-AllClear [] = Unit {0}
-AllClear (x ∷ l) = T (clear x) × AllClear l
+AllClear l = Each (λ x. T (clear x)) l

@@ -75,12 +75,6 @@ pub fn measure_from(input: &[u8], at: usize, w: usize, h: usize) -> Answer
     measure(&input[at..], w, h)
 }
 
-fn wide(x: u32) -> u64
-    ensures { λ r. ⌜ r ≡ x ⌝ }
-{
-    x as u64
-}
-
 // The ten fields of an answer.
 fn values(a: Answer) -> [u64; 10]
     ensures { λ r. ⌜ r ≡ wordsOf a ⌝ }
@@ -89,7 +83,7 @@ fn values(a: Answer) -> [u64; 10]
     let mut out = [0u64; 10];
     let mut k = 0;
     while k < 10 {
-        out[k] = wide(words[k]);
+        out[k] = laws::wide(words[k]);
         k += 1;
     }
     out

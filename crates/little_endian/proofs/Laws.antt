@@ -15,7 +15,7 @@ length-bytes (suc n) x = ap suc (length-bytes n _)
 
 -- what is written are bytes
 pub bytes-are : (n x : ℕ) → Bytes (bytesOf n x)
-unfolding bytesOf Bytes
+unfolding bytesOf
 bytes-are zero x = tt
 bytes-are (suc n) x = (mod-lt x (omega arith), bytes-are n _)
 
@@ -32,7 +32,7 @@ value-bytes (suc n) x h = ap (λ (v : ℕ). x % 256 + 256 * v) (value-bytes n (x
     whole x = omega arith
 
 pub bytes-value : (l : List ℕ) → Bytes l → bytesOf (length l) (valueOf l) ≡ l
-unfolding bytesOf valueOf Bytes
+unfolding bytesOf valueOf
 bytes-value [] b = refl
 bytes-value (x ∷ l) b =
     ap (λ (y : ℕ). y ∷ bytesOf (length l) ((x + 256 * valueOf l) / 256)) (low x (valueOf l) (b .0))
@@ -47,7 +47,7 @@ bytes-value (x ∷ l) b =
 
 -- bytes stand for a number below 256 to their count
 pub value-lt : (l : List ℕ) → Bytes l → valueOf l < 256 ^ length l
-unfolding valueOf Bytes
+unfolding valueOf
 value-lt [] b = pow-pos 0
 value-lt (x ∷ l) b = rw (pow-succ' 256 (length l)) (less x (valueOf l) (256 ^ length l) (b .0) (value-lt l (b .1)))
   where

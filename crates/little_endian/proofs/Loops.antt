@@ -7,7 +7,8 @@ use native.Mathlib.Nat.{pow-succ', pow-le-pow-right}
 use lib.ListN.{length, getD, take, drop, set}
 use lib.Seq.{slice, slice-empty, slice-cons}
 use Rattle.laws.proofs.Fill.{Writing, start, put, end}
-use Rattle.little_endian.specs.Bytes.{bytesOf, valueOf, laid}
+use Rattle.laws.specs.Lists.{laid}
+use Rattle.little_endian.specs.Bytes.{bytesOf, valueOf}
 use Rattle.little_endian.proofs.Laws.{length-bytes}
 
 -- ---- k of the count bytes of x are written, and those of `rest` are to come

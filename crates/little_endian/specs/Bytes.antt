@@ -1,7 +1,7 @@
 -- Little-endian bytes: writing and reading, over their count.
 use Prim.Native.Nat.{ℕ, zero, suc, _+_, _*_, _/_, _%_, _<_}
-use mathlib.Core.List.{List, [], _∷_, _++_}
-use lib.ListN.{length, take, drop}
+use mathlib.Core.List.{List, [], _∷_}
+use Rattle.laws.specs.Lists.{Each}
 
 -- the n low bytes of x, the lowest first
 unfoldable pub bytesOf : ℕ → ℕ → List ℕ
@@ -14,10 +14,5 @@ valueOf [] = 0
 valueOf (b ∷ l) = b + 256 * valueOf l
 
 -- each element is a byte
-unfoldable pub Bytes : List ℕ → Type 0
-Bytes [] = Unit {0}
-Bytes (b ∷ l) = (b < 256) × Bytes l
-
--- out with `new` laid over what stands from place `at` on
-abbrev pub laid : List ℕ → ℕ → List ℕ → List ℕ
-laid out at new = (take at out ++ new) ++ drop (at + length new) out
+abbrev pub Bytes : List ℕ → Type 0
+Bytes l = Each (λ b. b < 256) l

@@ -3,7 +3,8 @@ ghost use mathlib.Core.Path.{_≡_};
 ghost use Prim.Native.Nat.{_+_, _^_, _≤_, _<_};
 ghost use lib.ListN.{length};
 ghost use lib.Seq.{slice};
-ghost use Rattle.little_endian.specs.Bytes.{bytesOf, valueOf, laid};
+ghost use Rattle.laws.specs.Lists.{laid};
+ghost use Rattle.little_endian.specs.Bytes.{bytesOf, valueOf};
 
 fn wide(x: u8) -> u64
     ensures { λ r. ⌜ (r ≡ x) × (r < 256) ⌝ }

@@ -3,3 +3,4 @@ pub mod Columns
 pub mod Gathered
 pub mod Filling
 pub mod Measuring
+pub mod Examples

@@ -2,12 +2,6 @@
 ghost use mathlib.Core.Path.{_≡_};
 ghost use Rattle.milli.specs.Thousandths.{milliOf};
 
-fn wide(x: u32) -> u64
-    ensures { λ r. ⌜ r ≡ x ⌝ }
-{
-    x as u64
-}
-
 // The floor of 1,000 times x, taken exactly; 0 for a NaN and below zero, and the largest u32 where
 // it is more. x is digits / 2^(150 - field), and below field 110 neither x nor digits / 2^40 has a
 // thousandth.
@@ -25,7 +19,7 @@ pub fn milli(x: f32) -> u32
     if field >= 150 {
         return 0xffff_ffff;
     }
-    let digits = wide(0x80_0000 + b % 0x80_0000);
+    let digits = laws::wide(0x80_0000 + b % 0x80_0000);
     let d = if field >= 110 { 150 - field } else { 40 };
     let q = digits * 1000 >> d;
     if q > 0xffff_ffff {

@@ -7,6 +7,7 @@ use Rattle.knots.specs.Places.{place, column}
 use Rattle.model.specs.Knots.{knotsNumber, atOf}
 use Rattle.ieee.specs.Convert.{convert}
 use Rattle.window.specs.Window.{statsOf, gate}
+use Rattle.window.proofs.Places.{_and_}
 use Rattle.band.specs.Bands.{bandOf}
 use Rattle.grid.specs.Step.{stepOf}
 use Rattle.readings.specs.Listing.{listing, AllHold}
@@ -14,4 +15,15 @@ use Rattle.readings.specs.Listing.{listing, AllHold}
 pub readings : AllHold listing
 unfolding ofInt round convert statsOf gate bandOf stepOf atOf knotsNumber place column within upTo finite lt le eq add sub mul div
 readings =
-    (refl, (refl, (refl, (refl, (refl, (refl, (refl, (refl, (refl, (refl, (refl, (refl, (refl, (refl, (refl, (refl, (refl, (refl, (((refl, refl), (refl, refl)), (((refl, refl), (refl, refl)), (refl, tt)))))))))))))))))))))
+    -- windows
+    refl and refl and refl and refl and refl
+    -- bands
+    and refl and refl and refl and refl and refl and refl
+    -- steps
+    and refl and refl and refl and refl
+    -- first x
+    and refl and refl and refl
+    -- rounding
+    and ((refl, refl), (refl, refl)) and ((refl, refl), (refl, refl))
+    -- knots
+    and refl and tt

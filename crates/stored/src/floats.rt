@@ -30,16 +30,7 @@ fn to_double(a: u64) -> f64
 pub fn of_single(x: f32) -> u64
     ensures { λ r. ⌜ r ≡ Ieee.toBits binary32 x ⌝ }
 {
-    if x != x {
-        return 0x7fc0_0000;
-    }
-    wide(f32::to_bits(x))
-}
-
-fn wide(x: u32) -> u64
-    ensures { λ r. ⌜ r ≡ x ⌝ }
-{
-    x as u64
+    laws::wide(float::bits32(x))
 }
 
 // The pattern of x, the quiet one for NaN.

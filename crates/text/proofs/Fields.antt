@@ -8,7 +8,8 @@ use lib.ListN.{length, getD, length-append}
 use borrow.Author.Tests.{eq-eqb, ne-eqb}
 use Rattle.laws.specs.Lists.{joined}
 use Rattle.laws.proofs.Choice.{chosen, passed, cond-both}
-use Rattle.text.specs.Numerals.{laid, decimalOf, hex8Of}
+use Rattle.laws.specs.Lists.{laid}
+use Rattle.text.specs.Numerals.{decimalOf, hex8Of}
 use Rattle.text.specs.Line.{fieldOf, endOf, fieldAt, lineOf}
 use Rattle.text.proofs.Decimals.{decimal-short}
 

@@ -6,7 +6,7 @@ use native.Mathlib.Omega.{arith}
 use lib.ListN.{length, take, drop, length-append, length-take, length-drop, take-append-drop}
 use Rattle.laws.specs.Lists.{joined}
 use Rattle.laws.proofs.Fill.{Writing, start, put-many, end}
-use Rattle.text.specs.Numerals.{laid}
+use Rattle.laws.specs.Lists.{laid}
 
 pub long : (out : List ℕ) (at : ℕ) (new : List ℕ) → at + length new ≤ length out → length (laid out at new) ≡ length out
 long out at new h =

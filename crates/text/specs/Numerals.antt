@@ -2,7 +2,6 @@
 use Prim.Native.Nat.{ℕ, zero, suc, _+_, _/_, _%_}
 use mathlib.Core.Bool.{cond}
 use mathlib.Core.List.{List, [], _∷_, _++_}
-use lib.ListN.{length, take, drop}
 use lib.Dec.{ltb}
 use Rattle.io.specs.Digits.{digits}
 
@@ -25,7 +24,3 @@ hex4Of x = digitOf (x / 4096 % 16) ∷ digitOf (x / 256 % 16) ∷ digitOf (x / 1
 -- x below 2 ^ 32 as eight digits
 abbrev pub hex8Of : ℕ → List ℕ
 hex8Of x = hex4Of (x / 65536) ++ hex4Of (x % 65536)
-
--- out with `new` laid over what stands from place `at` on
-abbrev pub laid : List ℕ → ℕ → List ℕ → List ℕ
-laid out at new = (take at out ++ new) ++ drop (at + length new) out

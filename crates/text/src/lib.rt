@@ -3,7 +3,8 @@ ghost use mathlib.Core.Path.{_≡_};
 ghost use mathlib.Core.List.{[], _∷_, _++_};
 ghost use Prim.Native.Nat.{_+_, _*_, _<_, _≤_};
 ghost use lib.ListN.{length, drop};
-ghost use Rattle.text.specs.Numerals.{laid, decimalOf, digitOf, hex4Of, hex8Of};
+ghost use Rattle.laws.specs.Lists.{laid};
+ghost use Rattle.text.specs.Numerals.{decimalOf, digitOf, hex4Of, hex8Of};
 ghost use Rattle.text.specs.Line.{fieldOf, endOf, lineOf};
 
 // Lays s over what stands from place `at` on, and answers where it ends. All other bytes stay, here and below.

@@ -2,7 +2,8 @@
 use mathlib.Core.Bool.{cond}
 use Prim.Native.Nat.{ℕ, _+_}
 use lib.Dec.{eqb}
-use Rattle.grid.specs.Needed.{Reading}
+use Rattle.grid.specs.Needed.{sizeNumber, sizeWindows}
+use Rattle.grid.specs.declared.Size.{Size}
 
-abbrev pub codeOf : Reading → ℕ
-codeOf r = cond (eqb (r .number) 0) (r .figure) (4294967296 + r .number)
+abbrev pub codeOf : Size → ℕ
+codeOf s = cond (eqb (sizeNumber s) 0) (sizeWindows s) (4294967296 + sizeNumber s)

@@ -13,7 +13,7 @@ use Rattle.window.proofs.Places.{below4²}
 use Rattle.window.proofs.Expressions.{numbers, at, componentE, bounds, within}
 
 pub pixel-abs : {z : ℤ} → Pixel z → natAbs z ≤ 255
-pixel-abs p = subst (λ (z : ℤ). natAbs z ≤ 255) (sym (p .is)) (p .low)
+pixel-abs p = subst (λ (z : ℤ). natAbs z ≤ 255) (sym (p .is)) (p .most)
 
 abbrev pub centred : Window → Window
 centred p x y = pos 2 *ℤ p x y -ℤ pos 255
@@ -21,7 +21,7 @@ centred p x y = pos 2 *ℤ p x y -ℤ pos 255
 pub centred-abs : (p : Window) → Pixels p → (x y : ℕ) → x < 4 → y < 4 → natAbs (centred p x y) ≤ 255
 centred-abs p e x y s t =
     let b = e x y s t in
-    subst (λ (w : ℤ). natAbs (pos 2 *ℤ w -ℤ pos 255) ≤ 255) (sym (b .is)) (abs-byte (b .byte) (b .low))
+    subst (λ (w : ℤ). natAbs (pos 2 *ℤ w -ℤ pos 255) ≤ 255) (sym (b .is)) (abs-byte (b .byte) (b .most))
 
 half : (z w : ℤ) (n : ℕ) → pos 2 *ℤ z ≡ w → natAbs w ≤ 2 * n → natAbs z ≤ n
 half z w n e b = omega (arith, abs-mul (pos 2) z, ap natAbs e)

@@ -14,7 +14,7 @@ use Rattle.window.proofs.Most.{gate-is, gate-most}
 
 -- bytes are pixels
 pub bytes-pixels : (img : List ℕ) → ((i : ℕ) → getD img i 0 ≤ 255) → (w at : ℕ) → Pixels (pixelsAt img w at)
-bytes-pixels img b w at x y s t = record { byte = getD img _ 0; is = refl; low = b _ }
+bytes-pixels img b w at x y s t = record { byte = getD img _ 0; is = refl; most = b _ }
 
 module _ (p : Window) (e : Pixels p) where
   -- the pixels as natural numbers

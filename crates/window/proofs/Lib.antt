@@ -12,4 +12,4 @@ pub mod Zero
 pub mod Most
 pub mod Figures
 pub mod Demand3
-pub mod Readings
+pub mod Examples

@@ -71,8 +71,8 @@ peak x y = cond (eqb (natAbs (P 2 x +ℤ P 2 y)) 2) (pos 255) (pos 0)
 
 pub peak-pixels : Pixels peak
 peak-pixels x y s t =
-    cond-both Pixel (eqb (natAbs (P 2 x +ℤ P 2 y)) 2) (pos 255) (pos 0) (record { byte = 255; is = refl; low = lit≤ tt })
-    (record { byte = 0; is = refl; low = lit≤ tt })
+    cond-both Pixel (eqb (natAbs (P 2 x +ℤ P 2 y)) 2) (pos 255) (pos 0) (record { byte = 255; is = refl; most = lit≤ tt })
+    (record { byte = 0; is = refl; most = lit≤ tt })
 
 -- and it is reached
 pub gate-most-reached : gate peak ≡ pos gateMost

@@ -1,9 +1,9 @@
 -- What holds at 0, 1, 2 and 3 holds at every number below 4; and so for pairs of numbers.
-use mathlib.Core.Bool.{Bool, true, false, cond}
+use mathlib.Core.Bool.{Bool, true, false, cond, _&&_}
 use Prim.Native.Nat.{ℕ, zero, suc, _<_}
 use native.Mathlib.Omega.{arith}
 use lib.Dec.{T}
-use Rattle.laws.proofs.Machine.{both}
+use lib.Ieee.Fits.{and-l, and-r}
 
 -- one fact and the rest: a chain that ends in tt is a fact of each element of a list
 infixr 5 _and_
@@ -26,23 +26,15 @@ pub below4² : (Q : ℕ → ℕ → Type 0)
 below4² Q a b c d e f g h k l m n o p q r i j s =
     below4 (λ i. (j : ℕ) → j < 4 → Q i j) (below4 (Q 0) a b c d) (below4 (Q 1) e f g h) (below4 (Q 2) k l m n) (below4 (Q 3) o p q r) i s j
 
-pub both-l : (a b : Bool) → T (both a b) → T a
-both-l true b t = tt
-both-l false b t = t
-
-pub both-r : (a b : Bool) → T (both a b) → T b
-both-r true b t = t
-both-r false b t = absurd t
-
 abbrev pub all4 : (ℕ → Bool) → Bool
-all4 f = both (f 0) (both (f 1) (both (f 2) (f 3)))
+all4 f = f 0 && (f 1 && (f 2 && f 3))
 
 tested : (f : ℕ → Bool) → T (all4 f) → (x : ℕ) → x < 4 → T (f x)
 tested f t =
-    let r = both-r (f 0) (both (f 1) (both (f 2) (f 3))) t in
-    let s = both-r (f 1) (both (f 2) (f 3)) r in
-    below4 (λ x. T (f x)) (both-l (f 0) (both (f 1) (both (f 2) (f 3))) t) (both-l (f 1) (both (f 2) (f 3)) r)
-    (both-l (f 2) (f 3) s) (both-r (f 2) (f 3) s)
+    let r = and-r (f 0) (f 1 && (f 2 && f 3)) t in
+    let s = and-r (f 1) (f 2 && f 3) r in
+    below4 (λ x. T (f x)) (and-l (f 0) (f 1 && (f 2 && f 3)) t) (and-l (f 1) (f 2 && f 3) r)
+    (and-l (f 2) (f 3) s) (and-r (f 2) (f 3) s)
 
 -- a test that is true at all sixteen places is true at each
 pub sixteen : (f : ℕ → ℕ → Bool) → T (all4 (λ i. all4 (f i))) → (i j : ℕ) → i < 4 → j < 4 → T (f i j)

@@ -1,15 +1,14 @@
 -- Sums of weighted squares: not negative, settled by the squares, scaled by a square.
 use mathlib.Core.Path.{_≡_, refl, sym, ap, _∙_}
-use mathlib.Core.Bool.{Bool, true}
+use mathlib.Core.Bool.{Bool, true, _&&_}
 use mathlib.Core.List.{List, [], _∷_}
 use Prim.Native.Nat.{ℕ, _+_, _*_, _<_}
 use lib.Dec.{T, ltb, ltb→lt}
 use lib.IntN.{ℤ, pos, negsuc, natAbs, _+ℤ_, _*ℤ_, *ℤ-zero}
 use Rattle.laws.proofs.Ring.{v, _⊕_, _⊗_, ring}
-use Rattle.laws.proofs.Machine.{both}
+use lib.Ieee.Fits.{and-l, and-r}
 use Rattle.window.specs.Window.{Term, sq, weighted, gateTerms}
 use Rattle.window.specs.Squares.{gated}
-use Rattle.window.proofs.Places.{both-l, both-r}
 
 -- ---- a fact of each (i, j) that a list of terms names
 
@@ -19,25 +18,25 @@ EachTerm Q (t ∷ ts) = Q (t .i) (t .j) × EachTerm Q ts
 
 abbrev pub every : (ℕ → ℕ → Bool) → List Term → Bool
 every f [] = true
-every f (t ∷ ts) = both (f (t .i) (t .j)) (every f ts)
+every f (t ∷ ts) = f (t .i) (t .j) && every f ts
 
 -- where a test is true of each, so is what follows from it
 pub each-term : (Q : ℕ → ℕ → Type 0) (f : ℕ → ℕ → Bool) → ((i j : ℕ) → T (f i j) → Q i j) → (ts : List Term) → T (every f ts) → EachTerm Q ts
 each-term Q f h [] t = tt
 each-term Q f h (s ∷ ts) t =
-    (h (s .i) (s .j) (both-l (f (s .i) (s .j)) (every f ts) t), each-term Q f h ts (both-r (f (s .i) (s .j)) (every f ts) t))
+    (h (s .i) (s .j) (and-l (f (s .i) (s .j)) (every f ts) t), each-term Q f h ts (and-r (f (s .i) (s .j)) (every f ts) t))
 
 -- those of the gate
 abbrev gated4 : ℕ → ℕ → Bool
-gated4 i j = both (ltb i 4) (both (ltb j 4) (gated i j))
+gated4 i j = ltb i 4 && (ltb j 4 && gated i j)
 
 pub each-gated : (Q : ℕ → ℕ → Type 0) → ((i j : ℕ) → i < 4 → j < 4 → T (gated i j) → Q i j) → EachTerm Q gateTerms
 each-gated Q h =
     each-term Q gated4
     (λ i j t.
-    let r = both-r (ltb i 4) (both (ltb j 4) (gated i j)) t in
-    h i j (ltb→lt i 4 (both-l (ltb i 4) (both (ltb j 4) (gated i j)) t)) (ltb→lt j 4 (both-l (ltb j 4) (gated i j) r))
-    (both-r (ltb j 4) (gated i j) r))
+    let r = and-r (ltb i 4) (ltb j 4 && gated i j) t in
+    h i j (ltb→lt i 4 (and-l (ltb i 4) (ltb j 4 && gated i j) t)) (ltb→lt j 4 (and-l (ltb j 4) (gated i j) r))
+    (and-r (ltb j 4) (gated i j) r))
     gateTerms tt
 
 -- ---- the sums

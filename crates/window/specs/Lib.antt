@@ -3,4 +3,3 @@ pub mod Surface
 pub mod Mirrors
 pub mod Squares
 pub mod Demand3
-pub mod Readings

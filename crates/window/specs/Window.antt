@@ -14,7 +14,7 @@ Window = ℕ → ℕ → ℤ
 pub record Pixel (z : ℤ) : Type 0 where
   pub byte : ℕ
   pub is : z ≡ pos byte
-  pub low : byte ≤ 255
+  pub most : byte ≤ 255
 
 -- a window of pixels
 abbrev pub Pixels : Window → Type 0

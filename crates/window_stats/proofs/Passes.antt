@@ -11,7 +11,8 @@ use lib.Signed.{mag}
 use Rattle.laws.specs.Lists.{Each, Each²}
 use Rattle.laws.proofs.Choice.{cond-both}
 use Rattle.laws.proofs.Ring.{Ex, v, k, _⊕_, _⊖_, _⊗_, eval, ring, same}
-use Rattle.laws.proofs.Machine.{each²-at, bnd, under, held, held-of, held-small}
+use Rattle.laws.proofs.Each.{each²-at}
+use Rattle.laws.proofs.Machine.{bnd, under, held, held-of, held-small}
 use Rattle.window.specs.Window.{Pixel, Pixels, component, gateTerms, gate, statsOf, ofRows}
 use Rattle.window_stats.specs.Passes.{Small, poly4Of, poly4Column, transposed, poly4Down, cross, middle, weighOf}
 use Rattle.window.specs.declared.WindowStats.{WindowStats}
@@ -30,7 +31,7 @@ pixels-small [] e = tt
 pixels-small (l ∷ m) e = (small-row l (e .0), pixels-small m (e .1))
 
 pub in-rows : (m : List (List ℤ)) → Each² Pixel m → Pixels (ofRows m)
-in-rows m e x y p q = each²-at Pixel (record { byte = 0; is = refl; low = lit≤ tt }) m e y x
+in-rows m e x y p q = each²-at Pixel (pos 0) (record { byte = 0; is = refl; most = lit≤ tt }) m e y x
 
 -- the four polynomials of four values
 abbrev polyE : ℕ → Ex → Ex → Ex → Ex → Ex

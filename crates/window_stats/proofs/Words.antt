@@ -15,7 +15,7 @@ use Rattle.window.proofs.Same.{stats-alike}
 use Rattle.window_stats.specs.Passes.{wordAt, rowIn, rowsIn}
 
 byte-pixel : (n : ℕ) → n < 256 → Pixel (pos n)
-byte-pixel n h = record { byte = n; is = refl; low = omega arith }
+byte-pixel n h = record { byte = n; is = refl; most = omega arith }
 
 pub row-pixels : (n : ℕ) → n < 4294967296 → Each Pixel (rowIn n)
 row-pixels n h =

@@ -3,7 +3,8 @@ use mathlib.Core.Path.{sym, _∙_}
 use native.Mathlib.Omega.{arith}
 use borrow.Author.Needs.{needs}
 use denote.Ref.{now}
-use Rattle.edge.proofs.Judged.{near, refused-is, long-is, centre-far, origin-far, answer-is, samples-upto}
+use Rattle.limits.proofs.Laws.{not-far}
+use Rattle.edge.proofs.Judged.{refused-is, long-is, centre-far, origin-far, answer-is, samples-upto}
 use Rattle.edge.proofs.edge_width.Statement.{statement}
 use Rattle.edge.proofs.edge_width.Tie as tie
 
@@ -40,7 +41,7 @@ load-requires c κs =
     let f = c .before .before .before in
     let j = f .before .before in
     let s = j .before .before .args in
-    let n = near (s .centre) (sym (f .far-place .ensures) ∙ c .before .before .if2 .left) in
+    let n = not-far (s .centre) (sym (f .far-place .ensures) ∙ c .before .before .if2 .left) in
     (long-is (now (s .pixels)) (s .width) (s .height) (s .origin) (s .centre) (j .judge .ensures) (f .before .if1 .left), n .0, n .1)
 
 edge-width-requires : tie.Need-edge-width-requires

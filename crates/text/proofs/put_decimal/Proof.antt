@@ -5,7 +5,8 @@ use native.Mathlib.Omega.{arith}
 use lib.ListN.{length, take, length-take}
 use denote.Ref.{now}
 use Rattle.io.specs.Digits.{Fewest, digits}
-use Rattle.text.specs.Numerals.{laid, decimalOf}
+use Rattle.laws.specs.Lists.{laid}
+use Rattle.text.specs.Numerals.{decimalOf}
 use Rattle.text.proofs.Decimals.{most, places-is}
 use borrow.Author.Needs.{needs}
 use Rattle.text.proofs.put_decimal.Statement.{statement}

@@ -6,7 +6,7 @@ use native.Mathlib.Omega.{arith}
 use lib.ListN.{length, length-append}
 use denote.Ref.{now}
 use borrow.Author.Needs.{needs}
-use Rattle.text.specs.Numerals.{laid}
+use Rattle.laws.specs.Lists.{laid}
 use Rattle.text.specs.Line.{fieldOf}
 use Rattle.text.proofs.Lays.{long, twice}
 use Rattle.text.proofs.Fields.{field-short}

@@ -2,7 +2,8 @@ use mathlib.Core.Path.{ap, _∙_}
 use Prim.Native.Nat.{ℕ, _/_, _%_}
 use native.Mathlib.Omega.{arith}
 use denote.Ref.{now}
-use Rattle.text.specs.Numerals.{hex4Of, laid}
+use Rattle.laws.specs.Lists.{laid}
+use Rattle.text.specs.Numerals.{hex4Of}
 use Rattle.text.proofs.Lays.{twice}
 use borrow.Author.Needs.{needs}
 use Rattle.text.proofs.put_hex8.Statement.{statement}

@@ -7,7 +7,7 @@ use native.Mathlib.Omega.{arith}
 use lib.ListN.{length, getD, length-append}
 use denote.Ref.{now}
 use Rattle.laws.specs.Lists.{joined}
-use Rattle.text.specs.Numerals.{laid}
+use Rattle.laws.specs.Lists.{laid}
 use Rattle.text.specs.Line.{fieldOf, endOf, fieldAt, lineOf}
 use Rattle.text.proofs.Fields.{field-end-short}
 use Rattle.text.proofs.Lays.{joined-last, long, none, twice}

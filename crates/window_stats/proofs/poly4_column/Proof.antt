@@ -4,9 +4,10 @@ use Prim.Native.Nat.{ℕ, _<_}
 use native.Mathlib.Omega.{arith}
 use borrow.Author.Needs.{needs}
 use lib.Dec.{lit≤}
-use lib.IntN.{ℤ}
+use lib.IntN.{ℤ, pos}
 use lib.Signed.{mag}
-use Rattle.laws.proofs.Machine.{held, held-of, each²-at}
+use Rattle.laws.proofs.Each.{each²-at}
+use Rattle.laws.proofs.Machine.{held, held-of}
 use Rattle.window.specs.Window.{ofRows}
 use Rattle.window_stats.specs.Passes.{Small, poly4Of}
 use Rattle.window.proofs.Places.{_and_}
@@ -29,7 +30,7 @@ low : (y : ℕ) (c : tie.After-poly4-arg4)
     → Small 4080 (ofRows (c .before .before .before .before .args .t1) (c .before .before .before .before .args .x) y)
 low y c =
     let s = c .before .before .before .before in
-    each²-at (Small 4080) (record { small = lit≤ tt }) (s .args .t1) (s .pre .1) y (s .args .x)
+    each²-at (Small 4080) (pos 0) (record { small = lit≤ tt }) (s .args .t1) (s .pre .1) y (s .args .x)
 
 mul-poly4 : tie.Need-mul-poly4
 mul-poly4 c = search needs

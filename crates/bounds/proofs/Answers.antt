@@ -1,0 +1,147 @@
+-- Every answer's sigma is an f32 from 0 to 409 (`sigma-is-number`), whatever the pixels, the sides and the work slices are.
+use mathlib.Core.Path.{_≡_, refl, sym, _∙_, subst}
+use mathlib.Core.Logic.{_⊎_, inl, inr}
+use mathlib.Core.Bool.{Bool, true, false, cond, _||_}
+use mathlib.Core.List.{List}
+use Prim.Native.Nat.{ℕ, suc, _+_, _-_, _*_, _^_, _≤_, _<_, min}
+use native.Mathlib.Nat.{le-trans, le-of-eq, div-lt-iff-lt-mul}
+use native.Mathlib.Omega.{arith}
+use borrow.Author.Tests.{eqb-true, eqb-false}
+use lib.Dec.{T, eqb, lit≤, lit<}
+use lib.ListN.{length, getD, length-map}
+use lib.IntN.{ℤ, pos}
+use lib.Ieee.{Float, nan, inf, fin, binary32, ofBits, ofInt, fits, toBits, up, down}
+use lib.Ieee.Fits.{down-pos}
+use Rattle.laws.specs.Lists.{Each}
+use Rattle.laws.proofs.Choice.{cond-both}
+use Rattle.ieee.proofs.Naturals.{le-or-lt}
+use Rattle.ieee.proofs.Bounded.{Bounded, HoldsWhole, holds-whole, bounded-up, zero-bounded}
+use Rattle.ieee.proofs.FromZero.{from-zero-to}
+use Rattle.window.specs.declared.WindowStats.{WindowStats}
+use Rattle.grid.specs.Step.{stepOf}
+use Rattle.grid.specs.Grid.{Sides}
+use Rattle.grid.specs.Needed.{firstW, secondW, neededOf}
+use Rattle.grid.proofs.Places.{total-most}
+use Rattle.grid.proofs.Steps.{few}
+use Rattle.measure.specs.Figures.{figuresOf}
+use Rattle.band.specs.Bands.{banded, sampleOf}
+use Rattle.band.proofs.Counting.{kept-most}
+use Rattle.sample.specs.Laid.{gate32, gatesOf, squaresOf}
+use Rattle.sample.proofs.Parts.{figures-long}
+use Rattle.milli.specs.Thousandths.{thousandths, milliOf}
+use Rattle.pass.specs.Pass.{startsBy, noiseIn, passOf}
+use Rattle.answer.specs.declared.Answer.{Answer}
+use Rattle.noise.specs.Answers.{endingIn, decided}
+use Rattle.noise.specs.Refusals.{shortOf, refusalOf}
+use Rattle.noise.specs.Call.{refused, measured, clearedInts, clearedFloats, noiseOf, Left}
+use Rattle.noise.proofs.Causes.{above-w, above-h, unlike, below-w, below-h, sides}
+use Rattle.bounds.specs.Sigma.{sigmaMost, SigmaIsNumber}
+use Rattle.bounds.proofs.Constants.{SigmaBounded, holds-sigma}
+use Rattle.bounds.proofs.Outputs.{Small, figures-small, outputs}
+use Rattle.bounds.proofs.Sigmas.{noise-bounded}
+
+-- ---- the figures that are in question: an f32 and bounded
+abbrev Fine : Float → Type 0
+Fine x = T (fits binary32 x) × Bounded x false sigmaMost
+
+holds-thousand : HoldsWhole binary32 1000
+holds-thousand = holds-whole binary32 1000 1000 0 (lit< tt) refl (lit≤ tt)
+
+bits-most : toBits binary32 (ofInt binary32 (pos sigmaMost)) ≡ 0x43CC_8000
+unfolding ofInt toBits
+bits-most = refl
+
+fine-milli : (x : Float) → Fine x → milliOf x ≤ 1000 * sigmaMost
+unfolding milliOf
+fine-milli nan p = absurd (p .1)
+fine-milli (inf t) p = absurd (p .1)
+fine-milli (fin t m e) p =
+    cond-both (λ (k : ℕ). k ≤ 1000 * sigmaMost) t 0 (min (thousandths (m * up e) (down e)) (2 ^ 32 - 1)) (omega arith)
+    (low (thousandths (m * up e) (down e)) (div-lt-iff-lt-mul (down-pos e) .1 (less (m * up e) (down e) (p .1 .1) (down-pos e))))
+  where
+    low : (k : ℕ) → k < 1000 * sigmaMost + 1 → min k (2 ^ 32 - 1) ≤ 1000 * sigmaMost
+    low k h = omega arith
+
+    less : (a d : ℕ) → a ≤ sigmaMost * d → 0 < d → a * 1000 < (1000 * sigmaMost + 1) * d
+    less a d h D = omega arith
+
+number-law : (a : Answer) → Fine (a .sigma) → a .milli ≤ 1000 * sigmaMost → SigmaIsNumber a
+number-law a p m =
+    let r = from-zero-to binary32 sigmaMost (holds-sigma binary32) (a .sigma) (p .0) (p .1) in
+    record {
+      range = r;
+      bits = subst (λ (n : ℕ). toBits binary32 (a .sigma) ≤ n) bits-most (r .bits);
+      milli = m;
+      thousand = from-zero-to binary32 1000 holds-thousand (a .sigma) (p .0) (bounded-up (a .sigma) false sigmaMost 1000 (lit≤ tt) (p .1));
+    }
+
+-- ---- a pass
+module _ (fs : List WindowStats) (many : length fs ≤ 2 ^ 28) (h : Each Small fs) where
+  pass-sigma : SigmaBounded (noiseIn fs .sigma)
+  pass-sigma = noise-bounded (gatesOf fs) (squaresOf fs) (startsBy (sampleOf fs)) (le-trans (le-of-eq (length-map (banded fs) gate32)) (le-trans (kept-most fs) many)) (outputs fs h)
+
+  pass-fine : Fine (passOf fs .sigma)
+  unfolding passOf
+  pass-fine = (pass-sigma .fits, pass-sigma .bounded)
+
+  pub ending-sigma : (rounds passes : ℕ) → SigmaIsNumber (endingIn (passOf fs) rounds passes)
+  ending-sigma rounds passes =
+      number-law (endingIn (passOf fs) rounds passes) pass-fine
+      (cond-both (λ (k : ℕ). k ≤ 1000 * sigmaMost) (eqb (passOf fs .number) 0) (milliOf (passOf fs .sigma)) 0 (fine-milli (passOf fs .sigma) pass-fine) (omega arith))
+
+-- ---- a refusal
+refused-sigma : (number : ℕ) → SigmaIsNumber (refused number)
+unfolding ofBits fits
+refused-sigma number = number-law (refused number) (tt, zero-bounded binary32 sigmaMost) (omega arith)
+
+-- what nothing refuses has allowed sides
+allowed : (n w h : ℕ) (short : Bool) → refusalOf n w h short ≡ 0 → Sides w h
+allowed n w h short e = elim (le-or-lt w 16384) [
+  | inr l ↦ absurd (no (sym (above-w n w h short l) ∙ e))
+  | inl a ↦ elim (le-or-lt h 16384) [
+    | inr l ↦ absurd (no (sym (above-h n w h short a l) ∙ e))
+    | inl b ↦ elim (same (eqb n (w * h)) refl) [
+      | inr d ↦ absurd (no (sym (unlike n w h a b short d) ∙ e))
+      | inl c ↦ elim (le-or-lt 4 w) [
+        | inr l ↦ absurd (no (sym (below-w n w h a b c short l) ∙ e))
+        | inl d ↦ elim (le-or-lt 4 h) [
+          | inr l ↦ absurd (no (sym (below-h n w h a b c short d l) ∙ e))
+          | inl g ↦ sides n w h a b c d g
+        ]
+      ]
+    ]
+  ]
+]
+  where
+    no : {k : ℕ} → suc k ≡ 0 → ⊥
+    no {k} e = omega arith
+
+    same : (b : Bool) → eqb n (w * h) ≡ b → (n ≡ w * h) ⊎ (n ≡ w * h → ⊥)
+    same true e = inl (eqb-true n (w * h) e)
+    same false e = inr (eqb-false n (w * h) e)
+
+-- ---- an image of pixels 0 to 255
+module _ (img : List ℕ) (bytes : (i : ℕ) → getD img i 0 ≤ 255) (w h : ℕ) where
+  pub measured-sigma : Sides w h → SigmaIsNumber (measured img w h)
+  unfolding measured decided
+  measured-sigma sides =
+      let p = passOf (figuresOf img w h firstW) in
+      let q = passOf (figuresOf img w h secondW) in
+      cond-both SigmaIsNumber (eqb (p .number) 0 || eqb (stepOf (w * h) firstW) 1) (endingIn p (p .rounds) 1) (endingIn q (p .rounds + q .rounds) 2)
+      (each firstW (lit≤ tt) (p .rounds) 1) (each secondW (lit≤ tt) (p .rounds + q .rounds) 2)
+    where
+      each : (windows : ℕ) → 1 ≤ windows → (rounds passes : ℕ) → SigmaIsNumber (endingIn (passOf (figuresOf img w h windows)) rounds passes)
+      each windows some =
+          ending-sigma (figuresOf img w h windows) (le-trans (le-of-eq (figures-long img w h windows)) (le-trans (total-most w h windows some) (few w h sides))) (figures-small img bytes w h windows)
+
+  -- the call, whatever the sides and the work slices are
+  pub sigma-is-number : (ints : List ℤ) (floats : List Float) → SigmaIsNumber (noiseOf img w h ints floats .answer)
+  unfolding noiseOf
+  sigma-is-number ints floats = go (eqb number 0) refl
+    where
+      number : ℕ
+      number = refusalOf (length img) w h (shortOf w h (length ints) (length floats))
+
+      go : (b : Bool) → eqb number 0 ≡ b → SigmaIsNumber (cond {A = Left} b (record { answer = measured img w h; ints = clearedInts (neededOf w h) ints; floats = clearedFloats (neededOf w h) floats }) (record { answer = refused number; ints = ints; floats = floats }) .answer)
+      go true e = measured-sigma (allowed (length img) w h (shortOf w h (length ints) (length floats)) (eqb-true number 0 e))
+      go false e = refused-sigma number
