@@ -10,7 +10,7 @@ use lib.Ieee.{Float, lt}
 use Rattle.ieee.specs.Numbers.{f32Of}
 use Rattle.limits.specs.Limits.{tooLarge, otherLength, farPlace}
 use Rattle.levels.specs.Levels.{highLevel, lowLevel}
-use Rattle.levels.specs.Steepness.{steepness}
+use Rattle.steepness.specs.Steepness.{steepness}
 use Rattle.disk.specs.Smoothing.{smoothed}
 use Rattle.disk.specs.Gradients.{values, gradients}
 use Rattle.tile.specs.declared.EdgeWidth.{EdgeWidth}
