@@ -121,5 +121,5 @@ few = refl
 -- after three rounds for the image, one for a band of 128 windows and none for an empty band
 pub four-rounds : noiseUnder (zeros 128) (zeros 128) (inBand0 128) (settledAt 128 (f64Of 0) 3) ≡ record { sigma = Number 7; rounds = 4 }
 unfolding noiseUnder sigmaOf decided joined outlierLimit median bandVariance judged settle maxRounds oneRound next near start quiet meanQuiet mean
-  threshold cut convert totalLess negative isNan larger magnitude sub neg add mul div lt le eq ofInt round
+    threshold cut convert totalLess negative isNan larger magnitude sub neg add mul div lt le eq ofInt round
 four-rounds = refl
