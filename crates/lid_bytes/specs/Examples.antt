@@ -1,14 +1,14 @@
 -- Inputs at the ends of what is taken, in the order of their causes; a report whose ten fields differ.
 use mathlib.Core.Path.{_≡_, refl}
-use mathlib.Core.List.{List, [], _∷_, _++_}
-use Prim.Native.Nat.{ℕ}
-use lib.ListN.{replicate, length}
+use mathlib.Core.List.{[], _∷_}
+use lib.ListN.{replicate}
 use lib.Ieee.{ofInt, toBits}
 use Rattle.ieee.specs.Numbers.{f32Of, plusZero}
 use Rattle.little_endian.specs.Bytes.{valueOf}
 use Rattle.text.specs.Text.{asBytes}
 use Rattle.text.specs.Numerals.{places, decimalOf, digitOf}
 use Rattle.text.specs.Line.{fieldOf, lineOf}
+use Rattle.answer.specs.declared.Answer.{Answer}
 use Rattle.lid_bytes.specs.declared.Input.the-variants.{Image, Refused}
 use Rattle.lid_bytes.specs.Input.{widthOf, heightOf, parsedOf}
 use Rattle.lid_bytes.specs.Report.{reportBytes, reportOf}
@@ -32,12 +32,18 @@ sixteen = (refl, refl)
 -- ---- reports
 
 -- document 01's flat lid
-pub flat-lid : reportOf (record { number = 0; sigma = plusZero; milli = 0; b0 = 0; b1 = 0; b2 = 529; b3 = 0; rail = 0; rounds = 2; passes = 1 })
+abbrev flat : Answer
+flat = record { number = 0; sigma = plusZero; milli = 0; b0 = 0; b1 = 0; b2 = 529; b3 = 0; rail = 0; rounds = 2; passes = 1 }
+
+pub flat-lid : reportOf flat
     ≡ asBytes "answer sigma milli b0 b1 b2 b3 rail rounds passes\n0 00000000 0 0 0 529 0 0 2 1\n"
 unfolding reportOf lineOf fieldOf decimalOf places digitOf toBits
 flat-lid = refl
 
-pub ten-fields : reportOf (record { number = 7; sigma = f32Of 1; milli = 1000; b0 = 10; b1 = 11; b2 = 12; b3 = 13; rail = 14; rounds = 15; passes = 2 })
+abbrev ten : Answer
+ten = record { number = 7; sigma = f32Of 1; milli = 1000; b0 = 10; b1 = 11; b2 = 12; b3 = 13; rail = 14; rounds = 15; passes = 2 }
+
+pub ten-fields : reportOf ten
     ≡ asBytes "answer sigma milli b0 b1 b2 b3 rail rounds passes\n7 3F800000 1000 10 11 12 13 14 15 2\n"
 unfolding reportOf lineOf fieldOf decimalOf places digitOf ofInt toBits
 ten-fields = refl

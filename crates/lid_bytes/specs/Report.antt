@@ -1,9 +1,9 @@
 -- What `lidnoise` writes: a header and one line, sigma as the f32's bits in hexadecimal, the rest decimal.
 use Prim.Native.Nat.{ℕ, _+_, _*_}
-use mathlib.Core.List.{List, [], _∷_, _++_}
+use mathlib.Core.List.{List, [], _∷_}
 use lib.ListN.{length}
 use Rattle.text.specs.Text.{asBytes}
-use Rattle.text.specs.Line.{lineOf}
+use Rattle.text.specs.Line.{under}
 use Rattle.answer.specs.declared.Answer.{Answer}
 use Rattle.answer.specs.Fields.{wordsOf}
 
@@ -19,4 +19,4 @@ abbrev pub reportBytes : ℕ
 reportBytes = length header + 21 * length kinds
 
 unfoldable pub reportOf : Answer → List ℕ
-reportOf a = header ++ lineOf kinds (wordsOf a)
+reportOf a = under header kinds (wordsOf a)

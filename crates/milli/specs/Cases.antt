@@ -46,7 +46,7 @@ unfolding milliOf ofBits toUnsigned mul
 fits-no-more = refl
 
 -- a NaN and what is below zero give 0, minus zero too; infinity gives the largest
-pub below-zero : (milliOf nan ≡ 0) × (milliOf (inf true) ≡ 0) × (milliOf (ofBits binary32 0xbf80_0000) ≡ 0) × (milliOf (ofBits binary32 0x8000_0000) ≡ 0)
-    × (milliOf (inf false) ≡ 4294967295)
+pub below-zero : (milliOf nan ≡ 0) × (milliOf (inf true) ≡ 0) × (milliOf (ofBits binary32 0xbf80_0000) ≡ 0)
+    × (milliOf (ofBits binary32 0x8000_0000) ≡ 0) × (milliOf (inf false) ≡ 4294967295)
 unfolding milliOf ofBits
 below-zero = (refl, refl, refl, refl, refl)

@@ -1,4 +1,5 @@
--- The noise call: its answer from its arguments, and what it leaves in the work slices. The calls from C and from `lidnoise` are this one.
+-- The noise call: its answer from its arguments, and what it leaves in the work slices. The calls from C and from `lidnoise` are
+-- this one.
 use mathlib.Core.Bool.{Bool, cond, _||_}
 use mathlib.Core.List.{List}
 use Prim.Native.Nat.{ℕ, _*_}

@@ -13,8 +13,8 @@ use Rattle.noise.specs.Answers.{decided}
 use Rattle.noise.specs.Call.{ran, clearedInts, clearedFloats}
 
 -- no pixel, a side too large, one too small, short memory; then one cause less each
-pub orders : (refusalOf 0 16385 3 true ≡ 1) × (refusalOf 0 16384 3 true ≡ 2) × (refusalOf 12 4 3 true ≡ 3) × (refusalOf 16 4 4 true ≡ 4)
-    × (refusalOf 16 4 4 false ≡ 0)
+pub orders : (refusalOf 0 16385 3 true ≡ 1) × (refusalOf 0 16384 3 true ≡ 2) × (refusalOf 12 4 3 true ≡ 3)
+    × (refusalOf 16 4 4 true ≡ 4) × (refusalOf 16 4 4 false ≡ 0)
 unfolding refusalOf
 orders = (refl, refl, refl, refl, refl)
 
@@ -54,5 +54,6 @@ numbers-that-leave = (refl, refl, refl, refl)
 
 -- three numbers of one kind and four of the other for one window, and what lies beyond
 pub one-window : (clearedInts 1 (pos 1 ∷ pos 2 ∷ pos 3 ∷ pos 4 ∷ []) ≡ pos 0 ∷ pos 0 ∷ pos 0 ∷ pos 4 ∷ [])
-    × (clearedFloats 1 (f32Of 1 ∷ f32Of 2 ∷ f32Of 3 ∷ f32Of 4 ∷ f32Of 5 ∷ []) ≡ plusZero ∷ plusZero ∷ plusZero ∷ plusZero ∷ f32Of 5 ∷ [])
+    × (clearedFloats 1 (f32Of 1 ∷ f32Of 2 ∷ f32Of 3 ∷ f32Of 4 ∷ f32Of 5 ∷ [])
+    ≡ plusZero ∷ plusZero ∷ plusZero ∷ plusZero ∷ f32Of 5 ∷ [])
 one-window = (refl, refl)

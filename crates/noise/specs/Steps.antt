@@ -1,4 +1,5 @@
--- What only the code's steps need: a verdict, a call that nothing refuses, and the work slices between the passes and their clearing.
+-- What only the code's steps need: a verdict, a call that nothing refuses, and what stands in the work slices before they are
+-- cleared.
 use mathlib.Core.Path.{_≡_}
 use mathlib.Core.Bool.{cond}
 use mathlib.Core.List.{List}

@@ -126,8 +126,8 @@ pub fn measure(
     answer
 }
 
-// The standard deviation of the pixel noise in an 8-bit image of w by h, in grey levels, or why there is none. The work slices hold
-// 3M and 2M + 2 elements or more, M being what grid::sizing answers.
+// The standard deviation of the pixel noise in an 8-bit image of w by h, in grey levels, or why there is none. The work slices
+// hold 3M and 2M + 2 elements or more, M being what grid::sizing answers.
 pub fn estimate_noise_sigma_u8(
     img: &[u8],
     w: usize,
@@ -135,7 +135,8 @@ pub fn estimate_noise_sigma_u8(
     ints: &mut [i32],
     floats: &mut [f32],
 ) -> Answer
-    ensures { λ r. ⌜ (r ≡ noiseOf (now (img .entry)) w h (shortOf w h (length (now (ints .entry))) (length (now (floats .entry)))))
+    ensures { λ r. ⌜ (r ≡ noiseOf (now (img .entry)) w h
+        (shortOf w h (length (now (ints .entry))) (length (now (floats .entry)))))
         × (now (ints .exit) ≡ leftInts (r .number) w h (now (ints .entry)))
         × (now (floats .exit) ≡ leftFloats (r .number) w h (now (floats .entry))) ⌝ }
 {

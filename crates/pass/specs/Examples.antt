@@ -14,10 +14,12 @@ s = record { b0 = 1; b1 = 20; b2 = 300; b3 = 4000; rail = 5 }
 pub starts : startsBy s ≡ 0 ∷ 1 ∷ 21 ∷ 321 ∷ 4321 ∷ []
 starts = refl
 
-pub figure-told : packed s (record { sigma = Figure (f32Of 2); rounds = 9 }) ≡ record { number = 0; sigma = f32Of 2; rounds = 9; b0 = 1; b1 = 20; b2 = 300; b3 = 4000; rail = 5 }
+pub figure-told : packed s (record { sigma = Figure (f32Of 2); rounds = 9 })
+    ≡ record { number = 0; sigma = f32Of 2; rounds = 9; b0 = 1; b1 = 20; b2 = 300; b3 = 4000; rail = 5 }
 figure-told = refl
 
-pub number-told : packed s (record { sigma = Number 7; rounds = 9 }) ≡ record { number = 7; sigma = plusZero; rounds = 9; b0 = 1; b1 = 20; b2 = 300; b3 = 4000; rail = 5 }
+pub number-told : packed s (record { sigma = Number 7; rounds = 9 })
+    ≡ record { number = 7; sigma = plusZero; rounds = 9; b0 = 1; b1 = 20; b2 = 300; b3 = 4000; rail = 5 }
 unfolding ofBits
 number-told = refl
 

@@ -7,6 +7,7 @@ use Rattle.band.specs.Bands.{sampleOf}
 use Rattle.sample.specs.Laid.{gatesOf, squaresOf}
 use Rattle.band.specs.declared.Sample.{Sample}
 use Rattle.rounds.specs.Rounds.{imageVariance}
+use Rattle.rounds.specs.declared.Settled.{Settled}
 use Rattle.rounds.specs.declared.Found.{Found}
 use Rattle.joining.specs.Joining.{variances, joined, founds, noise, numberOf, figureOf}
 use Rattle.joining.specs.declared.Noise.{Noise}
@@ -44,10 +45,13 @@ passOf fs = packed (sampleOf fs) (noiseIn fs)
 
 -- ---- what its number rests on
 
+-- the image-wide variance
+abbrev pub imageIn : List WindowStats → Settled
+imageIn fs = imageVariance (gatesOf fs) (squaresOf fs) (startsBy (sampleOf fs))
+
 -- the variances that its bands have or lack
 abbrev pub foundsIn : List WindowStats → List Found
-foundsIn fs =
-    founds (gatesOf fs) (squaresOf fs) (startsBy (sampleOf fs)) (imageVariance (gatesOf fs) (squaresOf fs) (startsBy (sampleOf fs)) .var)
+foundsIn fs = founds (gatesOf fs) (squaresOf fs) (startsBy (sampleOf fs)) (imageIn fs .var)
 
 -- how many bands have one, and how many windows those that are joined hold
 abbrev pub foundBy : List WindowStats → ℕ

@@ -9,8 +9,8 @@ use Rattle.text.specs.Line.{fieldOf, lineOf}
 pub plain : asBytes "b0 \n" ≡ 98 ∷ 48 ∷ 32 ∷ 10 ∷ []
 plain = refl
 
-pub decimals : (decimalOf 0 ≡ asBytes "0") × (decimalOf 9 ≡ asBytes "9") × (decimalOf 10 ≡ asBytes "10") × (decimalOf 1000 ≡ asBytes "1000")
-    × (decimalOf 18446744073709551615 ≡ asBytes "18446744073709551615")
+pub decimals : (decimalOf 0 ≡ asBytes "0") × (decimalOf 9 ≡ asBytes "9") × (decimalOf 10 ≡ asBytes "10")
+    × (decimalOf 1000 ≡ asBytes "1000") × (decimalOf 18446744073709551615 ≡ asBytes "18446744073709551615")
 unfolding decimalOf places
 decimals = (refl, refl, refl, refl, refl)
 

@@ -18,7 +18,7 @@ use Rattle.noise.specs.Call.{refused, measured, noiseOf, clearedInts, clearedFl
 use Rattle.noise.specs.Steps.{verdictOf}
 use Rattle.noise.proofs.Causes.{same-cause, only-cause}
 use Rattle.noise.proofs.Leaving.{number-is, windows-is, noise-refused, noise-measured, all-stays, all-changes}
-use Rattle.vuzgari.specs.Noise.{answerFor, leftBytes}
+use Rattle.vuzgari.specs.Noise.{noiseFor, leftBytes}
 
 module _ (img : List ℕ) (w h : ℕ) (ints : List ℤ) (floats : List Float) (out : List ℕ) (v : Verdict) (is : v ≡ verdictOf (length img) w h (length ints) (length floats)) where
   abbrev short : Bool
@@ -37,13 +37,13 @@ module _ (img : List ℕ) (w h : ℕ) (ints : List ℤ) (floats : List Float) (o
   -- the four parts of the contract
   abbrev Parts : ℕ → List ℤ → List Float → List ℕ → Type 0
   Parts n i f o =
-      (n ≡ answerFor img w h ints floats out .number) × (i ≡ leftInts n w h ints) × (f ≡ leftFloats n w h floats)
-      × (o ≡ leftBytes (answerFor img w h ints floats out) out)
+      (n ≡ noiseFor img w h ints floats out .number) × (i ≡ leftInts n w h ints) × (f ≡ leftFloats n w h floats)
+      × (o ≡ leftBytes out (noiseFor img w h ints floats out))
 
   -- by an answer that the call gives
-  parts : (a : Answer) {i : List ℤ} {f : List Float} {o : List ℕ} → answerFor img w h ints floats out ≡ a
-      → i ≡ leftInts (a .number) w h ints → f ≡ leftFloats (a .number) w h floats → o ≡ leftBytes a out → Parts (a .number) i f o
-  parts a e p q r = (ap (λ (x : Answer). x .number) (sym e), p, q, r ∙ ap (λ (x : Answer). leftBytes x out) (sym e))
+  parts : (a : Answer) {i : List ℤ} {f : List Float} {o : List ℕ} → noiseFor img w h ints floats out ≡ a
+      → i ≡ leftInts (a .number) w h ints → f ≡ leftFloats (a .number) w h floats → o ≡ leftBytes out a → Parts (a .number) i f o
+  parts a e p q r = (ap (λ (x : Answer). x .number) (sym e), p, q, r ∙ ap (λ (x : Answer). leftBytes out x) (sym e))
 
   stays : (k : ℕ) → number ≡ k → (k ≡ 0 → ⊥) → Parts k ints floats out
   stays k e n =

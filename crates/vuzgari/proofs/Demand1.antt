@@ -16,7 +16,7 @@ use Rattle.noise.specs.Refusals.{shortOf}
 use Rattle.noise.specs.Call.{ran, clearedInts, clearedFloats}
 use Rattle.noise.proofs.Numbers.{ran-not, ran-is}
 use Rattle.noise.proofs.Demand1 as Noise
-use Rattle.vuzgari.specs.Noise.{answerFor}
+use Rattle.vuzgari.specs.Noise.{noiseFor}
 use Rattle.vuzgari.specs.Demand1.{Lent, Demand1AtC}
 
 lent : (a : Answer) (w h : ℕ) (ints : List ℤ) (floats : List Float) (out : List ℕ) → Lent a w h ints floats out
@@ -40,5 +40,5 @@ pub demand1 : (pixels : List ℕ) (w h : ℕ) (ints : List ℤ) (floats : List F
 demand1 pixels w h ints floats out =
     record {
       noise = Noise.demand1 pixels w h (shortOf w h (length ints) (length floats) || ltb (length out) 40);
-      lent = lent (answerFor pixels w h ints floats out) w h ints floats out;
+      lent = lent (noiseFor pixels w h ints floats out) w h ints floats out;
     }

@@ -12,9 +12,9 @@ use Rattle.noise.specs.Refusals.{shortOf}
 use Rattle.noise.specs.Call.{noiseOf, ran}
 
 -- an answer slice under 40 bytes counts as a work slice too short
-abbrev pub answerFor : List ℕ → ℕ → ℕ → List ℤ → List Float → List ℕ → Answer
-answerFor pixels w h ints floats out = noiseOf pixels w h (shortOf w h (length ints) (length floats) || ltb (length out) 40)
+abbrev pub noiseFor : List ℕ → ℕ → ℕ → List ℤ → List Float → List ℕ → Answer
+noiseFor pixels w h ints floats out = noiseOf pixels w h (shortOf w h (length ints) (length floats) || ltb (length out) 40)
 
 -- after 0, 5, 6 or 7 the answer's 40 bytes and what stood beyond them; after any other number all as it was
-abbrev pub leftBytes : Answer → List ℕ → List ℕ
-leftBytes a out = cond (ran (a .number)) (answerBytes a ++ drop 40 out) out
+abbrev pub leftBytes : List ℕ → Answer → List ℕ
+leftBytes out a = cond (ran (a .number)) (answerBytes a ++ drop 40 out) out

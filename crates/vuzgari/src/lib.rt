@@ -5,7 +5,7 @@ ghost use Rattle.grid.specs.Needed.{sizingOf};
 ghost use Rattle.edge.specs.Edge.{edge};
 ghost use Rattle.noise.specs.Call.{leftInts, leftFloats};
 ghost use Rattle.vuzgari.specs.Codes.{sizeCode, widthCode};
-ghost use Rattle.vuzgari.specs.Noise.{answerFor, leftBytes};
+ghost use Rattle.vuzgari.specs.Noise.{noiseFor, leftBytes};
 use tile::EdgeWidth;
 
 // M for an image of w by h, or 4,294,967,296 plus the number of a refusal. The noise call needs 3M i32 and 2M + 2 f32.
@@ -31,11 +31,11 @@ pub extern "C" fn vuzgari_noise(
     floats: &mut [f32],
     out: &mut [u8],
 ) -> u32
-    ensures { λ r. ⌜ (r ≡ answerFor (now (pixels .entry)) w h (now (ints .entry)) (now (floats .entry)) (now (out .entry)) .number)
+    ensures { λ r. ⌜ (r ≡ noiseFor (now (pixels .entry)) w h (now (ints .entry)) (now (floats .entry)) (now (out .entry)) .number)
         × (now (ints .exit) ≡ leftInts r w h (now (ints .entry)))
         × (now (floats .exit) ≡ leftFloats r w h (now (floats .entry)))
-        × (now (out .exit) ≡ leftBytes (answerFor (now (pixels .entry)) w h (now (ints .entry)) (now (floats .entry)) (now (out .entry)))
-        (now (out .entry))) ⌝ }
+        × (now (out .exit) ≡ leftBytes (now (out .entry))
+        (noiseFor (now (pixels .entry)) w h (now (ints .entry)) (now (floats .entry)) (now (out .entry)))) ⌝ }
 {
     let verdict = noise::judge(pixels.len(), w, h, ints.len(), floats.len());
     let cause = verdict.number;
