@@ -14,12 +14,14 @@ unfolding ofBits ofInt add mul
 order = refl
 
 -- 0, 1, 4, 9, 16 down by 1, 4, 6, 4, 1 is 80, and 0 to 4 across is 32; a row further down it is 160
-pub weights : (smoothed (λ y x. f32Of (y * y * x)) 0 0 ≡ f32Of (80 * 32)) × (smoothed (λ y x. f32Of (y * y * x)) 1 0 ≡ f32Of (160 * 32))
+pub weights : (smoothed (λ y x. f32Of (y * y * x)) 0 0 ≡ f32Of (80 * 32))
+    × (smoothed (λ y x. f32Of (y * y * x)) 1 0 ≡ f32Of (160 * 32))
 unfolding ofInt add mul
 weights = (refl, refl)
 
 -- rounded once, or without rounding the larger product, it is 0x4b82_e655
-pub three-roundings : (squares (f32Of 97) (f32Of 4141) ≡ ofBits binary32 0x4b82_e654) × (squares (f32Of 4141) (f32Of 97) ≡ ofBits binary32 0x4b82_e654)
+pub three-roundings : (squares (f32Of 97) (f32Of 4141) ≡ ofBits binary32 0x4b82_e654)
+    × (squares (f32Of 4141) (f32Of 97) ≡ ofBits binary32 0x4b82_e654)
 unfolding ofBits ofInt add mul
 three-roundings = (refl, refl)
 

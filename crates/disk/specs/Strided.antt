@@ -8,4 +8,5 @@ use Rattle.disk.specs.Smoothing.{binomial}
 -- from place k of a list on, each a stride after the one before
 abbrev pub strided : List Float → ℕ → ℕ → Float
 strided l k stride =
-    binomial (getD l k nan) (getD l (k + stride) nan) (getD l (k + 2 * stride) nan) (getD l (k + 3 * stride) nan) (getD l (k + 4 * stride) nan)
+    binomial (getD l k nan) (getD l (k + stride) nan) (getD l (k + 2 * stride) nan)
+    (getD l (k + 3 * stride) nan) (getD l (k + 4 * stride) nan)

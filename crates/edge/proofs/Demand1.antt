@@ -10,14 +10,12 @@ use lib.IntN.{ℤ}
 use lib.Ieee.{Float, lt}
 use Rattle.ieee.specs.Numbers.{f32Of}
 use Rattle.limits.specs.Limits.{tooLarge, otherLength, farPlace}
-use Rattle.levels.specs.Levels.{highLevel, lowLevel}
-use Rattle.disk.specs.Gradients.{values}
 use Rattle.tile.specs.declared.EdgeWidth.{EdgeWidth}
 use Rattle.tile.specs.declared.EdgeWidth.the-variants.{Width, Refused}
 use Rattle.tile.specs.Refusal.{refusal}
 use Rattle.tile.specs.Width.{widthOf}
 use Rattle.edge.specs.Edge.{edge}
-use Rattle.edge.specs.Demand1.{Demand1, square, gradient, EdgeMeets}
+use Rattle.edge.specs.Demand1.{Demand1, high, low, gradient, EdgeMeets}
 
 never : true ≡ false → ⊥
 never e = let q : _≡_ {A = ℕ} 1 0 = ap (λ (b : Bool). cond b 1 0) e in omega arith
@@ -97,8 +95,9 @@ meets false false false false width = record {
 module _ (l : List ℕ) (w h : ℕ) (origin centre : List ℤ) where
   abbrev in-order : EdgeWidth
   in-order =
-      ordered (tooLarge w h) (otherLength (length l) w h) (farPlace centre || farPlace origin) (lt (f32Of 0) (gradient l w h origin centre))
-      (widthOf (highLevel (values (square l w h origin centre))) (lowLevel (values (square l w h origin centre))) (gradient l w h origin centre))
+      ordered (tooLarge w h) (otherLength (length l) w h) (farPlace centre || farPlace origin)
+      (lt (f32Of 0) (gradient l w h origin centre))
+      (widthOf (high l w h origin centre) (low l w h origin centre) (gradient l w h origin centre))
 
   edge-ordered : in-order ≡ edge l w h origin centre
   unfolding edge refusal

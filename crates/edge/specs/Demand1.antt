@@ -1,4 +1,4 @@
--- Demand 1 at the edge call, for every argument: a width or one of 1, 2, 8, 9, each exactly when its cause is the first that applies.
+-- Demand 1 at the edge call, for every argument: a width or one of 1, 2, 8, 9, each exactly when its cause is the first to apply.
 use mathlib.Core.Path.{_≡_}
 use mathlib.Core.Bool.{Bool, true, false, _||_}
 use mathlib.Core.Logic.{_↔_, _⊎_}
@@ -28,14 +28,22 @@ pub record Demand1 (large other far steep : Bool) (width : Float) (r : EdgeWidth
   pub figure : (x : Float) → (r ≡ Width x) ↔ ((large ≡ false) × (other ≡ false) × (far ≡ false) × (steep ≡ true) × (x ≡ width))
   pub no-other : (n : ℕ) → r ≡ Refused n → (n ≡ 1) ⊎ (n ≡ 2) ⊎ (n ≡ 8) ⊎ (n ≡ 9)
 
+-- the smoothed square, its levels and its gradient mean
 abbrev pub square : List ℕ → ℕ → ℕ → List ℤ → List ℤ → ℕ → ℕ → Float
 square l w h origin centre = smoothed (tile l w h origin centre)
+
+abbrev pub high : List ℕ → ℕ → ℕ → List ℤ → List ℤ → Float
+high l w h origin centre = highLevel (values (square l w h origin centre))
+
+abbrev pub low : List ℕ → ℕ → ℕ → List ℤ → List ℤ → Float
+low l w h origin centre = lowLevel (values (square l w h origin centre))
 
 abbrev pub gradient : List ℕ → ℕ → ℕ → List ℤ → List ℤ → Float
 gradient l w h origin centre = steepness (gradients (square l w h origin centre))
 
 abbrev pub EdgeMeets : List ℕ → ℕ → ℕ → List ℤ → List ℤ → Type 0
 EdgeMeets l w h origin centre =
-    Demand1 (tooLarge w h) (otherLength (length l) w h) (farPlace centre || farPlace origin) (lt (f32Of 0) (gradient l w h origin centre))
-    (widthOf (highLevel (values (square l w h origin centre))) (lowLevel (values (square l w h origin centre))) (gradient l w h origin centre))
+    Demand1 (tooLarge w h) (otherLength (length l) w h) (farPlace centre || farPlace origin)
+    (lt (f32Of 0) (gradient l w h origin centre))
+    (widthOf (high l w h origin centre) (low l w h origin centre) (gradient l w h origin centre))
     (edge l w h origin centre)

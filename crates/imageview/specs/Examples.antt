@@ -23,6 +23,7 @@ corners = (refl, refl, refl, refl)
 
 -- the origin is added, x to x and y to y, before the nearest is taken; an image without a pixel gives 0
 pub moved : (pixel six 3 2 (pos 1 ∷ pos 1 ∷ []) (pos 0) (pos 0) ≡ 21) × (pixel six 3 2 (pos 2 ∷ pos 0 ∷ []) (pos 0) (pos 0) ≡ 12)
-    × (pixel six 3 2 (negsuc 9 ∷ pos 0 ∷ []) (pos 11) (pos 0) ≡ 11) × (pixel [] 0 2 zeros (pos 0) (pos 0) ≡ 0) × (pixel [] 3 0 zeros (pos 0) (pos 0) ≡ 0)
+    × (pixel six 3 2 (negsuc 9 ∷ pos 0 ∷ []) (pos 11) (pos 0) ≡ 11)
+    × (pixel [] 0 2 zeros (pos 0) (pos 0) ≡ 0) × (pixel [] 3 0 zeros (pos 0) (pos 0) ≡ 0)
 unfolding pixel clamped
 moved = (refl, refl, refl, refl, refl)

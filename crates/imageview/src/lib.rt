@@ -52,7 +52,8 @@ pub struct ImageView<'a> {
 impl<'a> ImageView<'a> {
     // A view with the origin at (0, 0).
     pub fn from_u8_slice(width: usize, height: usize, pixels: &'a [u8]) -> Self
-        ensures { λ r. ⌜ (r .pixels ≡ pixels .entry) × (r .width ≡ width) × (r .height ≡ height) × (r .origin ≡ pos 0 ∷ pos 0 ∷ []) ⌝ }
+        ensures { λ r. ⌜ (r .pixels ≡ pixels .entry) × (r .width ≡ width) × (r .height ≡ height)
+            × (r .origin ≡ pos 0 ∷ pos 0 ∷ []) ⌝ }
     {
         Self {
             pixels,
@@ -77,7 +78,8 @@ impl<'a> ImageView<'a> {
     // The sample at (x, y).
     pub fn sample(self, x: i32, y: i32) -> f32
         requires { ⌜ length (now (self .pixels)) ≡ self .width * self .height ⌝ }
-        ensures { λ r. ⌜ r ≡ sample (now (self .entry .pixels)) (self .entry .width) (self .entry .height) (self .entry .origin) x y ⌝ }
+        ensures { λ r. ⌜ r ≡
+            sample (now (self .entry .pixels)) (self .entry .width) (self .entry .height) (self .entry .origin) x y ⌝ }
     {
         sample_at(self.pixels, self.width, self.height, self.origin, x, y)
     }

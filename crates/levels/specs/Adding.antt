@@ -1,4 +1,4 @@
--- Only for the law that sums of whole numbers are exact: a way of adding numbers, which, in which order, and how they are grouped.
+-- Only for the law that sums of whole numbers are exact: a way of adding, which numbers, in which order, and how grouped.
 use Prim.Native.Nat.{ℕ, _+_}
 use lib.Ieee.{Float, binary32, add}
 use Rattle.ieee.specs.Numbers.{f32Of}

@@ -15,6 +15,7 @@ unfolding highLevel lowLevel ofInt round add sub mul div lt le larger smaller
 cuts = (refl, refl)
 
 -- 5 / 3, not 5 × (1 / 3), which is 0x3fd5_5556; of one value that value, of none 0
-pub means : (meanOf (map f32Of (5 ∷ 0 ∷ 0 ∷ [])) ≡ ofBits binary32 0x3fd5_5555) × (meanOf (f32Of 7 ∷ []) ≡ f32Of 7) × (meanOf [] ≡ f32Of 0)
+pub means : (meanOf (map f32Of (5 ∷ 0 ∷ 0 ∷ [])) ≡ ofBits binary32 0x3fd5_5555)
+    × (meanOf (f32Of 7 ∷ []) ≡ f32Of 7) × (meanOf [] ≡ f32Of 0)
 unfolding ofBits ofInt add div
 means = (refl, refl, refl)

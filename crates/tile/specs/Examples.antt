@@ -18,7 +18,8 @@ patterns = (refl, refl)
 
 -- One quotient by one product: two quotients, a difference of quotients and a quotient or a root in f64 differ in the first,
 -- a product with 1 over it in the second.
-pub quotients : (widthOf (f32Of 3) (f32Of 1) (f32Of 3) ≡ ofBits binary32 0x3e88_2c1b) × (widthOf (f32Of 4) (f32Of 1) (f32Of 1) ≡ ofBits binary32 0x3f99_319f)
+pub quotients : (widthOf (f32Of 3) (f32Of 1) (f32Of 3) ≡ ofBits binary32 0x3e88_2c1b)
+    × (widthOf (f32Of 4) (f32Of 1) (f32Of 1) ≡ ofBits binary32 0x3f99_319f)
 unfolding ofBits ofInt round sub mul div sqrt
 quotients = (refl, refl)
 
@@ -38,12 +39,15 @@ unfolding pixel clamped
 reach = (refl, refl, refl, refl)
 
 -- the origin is added to the centre, x to x
-pub moved : (tile twenty 20 1 (pos 2 ∷ pos 5 ∷ []) nine 8 8 ≡ f32Of 11) × (tile twenty 1 20 (pos 2 ∷ negsuc 4 ∷ []) nine 8 8 ≡ f32Of 4)
+pub moved : (tile twenty 20 1 (pos 2 ∷ pos 5 ∷ []) nine 8 8 ≡ f32Of 11)
+    × (tile twenty 1 20 (pos 2 ∷ negsuc 4 ∷ []) nine 8 8 ≡ f32Of 4)
 unfolding pixel clamped
 moved = (refl, refl)
 
 -- a side too large before a length, both before a far place
-pub first : (refusal 7 20000 0 zeros (pos 1000001 ∷ pos 0 ∷ []) ≡ 1) × (refusal 7 2 3 zeros (pos 1000001 ∷ pos 0 ∷ []) ≡ 2)
-    × (refusal 6 2 3 zeros (pos 1000001 ∷ pos 0 ∷ []) ≡ 8) × (refusal 6 2 3 (pos 0 ∷ negsuc 1000000 ∷ []) zeros ≡ 8) × (refusal 6 2 3 zeros zeros ≡ 0)
+pub first : (refusal 7 20000 0 zeros (pos 1000001 ∷ pos 0 ∷ []) ≡ 1)
+    × (refusal 7 2 3 zeros (pos 1000001 ∷ pos 0 ∷ []) ≡ 2)
+    × (refusal 6 2 3 zeros (pos 1000001 ∷ pos 0 ∷ []) ≡ 8)
+    × (refusal 6 2 3 (pos 0 ∷ negsuc 1000000 ∷ []) zeros ≡ 8) × (refusal 6 2 3 zeros zeros ≡ 0)
 unfolding refusal
 first = (refl, refl, refl, refl, refl)

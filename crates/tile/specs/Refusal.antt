@@ -7,4 +7,7 @@ use lib.Dec.{eqb}
 use Rattle.limits.specs.Limits.{imageNumber, farPlace}
 
 unfoldable pub refusal : ℕ → ℕ → ℕ → List ℤ → List ℤ → ℕ
-refusal pixels w h origin centre = cond (eqb (imageNumber pixels w h) 0) (cond (farPlace centre || farPlace origin) 8 0) (imageNumber pixels w h)
+refusal pixels w h origin centre =
+    cond (eqb (imageNumber pixels w h) 0)
+    (cond (farPlace centre || farPlace origin) 8 0)
+    (imageNumber pixels w h)

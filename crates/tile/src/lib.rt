@@ -64,8 +64,10 @@ fn nearby(c: i32, o: i32, most: usize) -> [usize; 17]
 
 // The pixels in these columns of the row that begins at `start`, as the samples from place `to` on.
 fn lay(samples: &mut [f32; 289], to: usize, pixels: &[u8], start: usize, columns: &[usize; 17])
-    requires { ⌜ (length (now samples) ≡ 289) × (to + 17 ≤ 289) × ((i : ℕ) → i < 17 → start + getD (now columns) i 0 < length (now pixels)) ⌝ }
-    ensures { λ _. ⌜ now (samples .exit) ≡ laid (now (samples .entry)) to (from (picked (now (pixels .entry)) start (now (columns .entry))) 0 17) ⌝ }
+    requires { ⌜ (length (now samples) ≡ 289) × (to + 17 ≤ 289)
+        × ((i : ℕ) → i < 17 → start + getD (now columns) i 0 < length (now pixels)) ⌝ }
+    ensures { λ _. ⌜ now (samples .exit) ≡ laid (now (samples .entry)) to
+        (from (picked (now (pixels .entry)) start (now (columns .entry))) 0 17) ⌝ }
 {
     let mut k = 0;
     while k < 17 {
@@ -96,7 +98,9 @@ fn root_two_pi() -> f32
 impl PixelTile {
     // The samples of a view about the centre, or a number.
     pub fn load(img: ImageView, centre: [i32; 2]) -> Self
-        ensures { λ r. ⌜ (r ≡ loaded (now (img .entry .pixels)) (img .entry .width) (img .entry .height) (img .entry .origin) centre) × Bytes (r .samples) ⌝ }
+        ensures { λ r. ⌜ (r ≡
+            loaded (now (img .entry .pixels)) (img .entry .width) (img .entry .height) (img .entry .origin) centre)
+            × Bytes (r .samples) ⌝ }
     {
         Self::load_at(img.pixels, img.width, img.height, img.origin, centre)
     }
