@@ -9,18 +9,18 @@ use native.Mathlib.Nat.{le-trans, le-of-eq, add-mul}
 use native.Mathlib.Omega.{arith}
 use lib.Dec.{lit≤}
 use lib.ListN.{length}
-use lib.Ieee.{Float, nan, Format, binary32, binary64, ofBits, lt, le}
+use lib.Ieee.{Float, nan, Format, binary32, binary64, lt, le}
 use Rattle.laws.specs.Lists.{Each}
 use Rattle.laws.proofs.Each.{each-or}
-use Rattle.ieee.proofs.Bounded.{Bounded, bounded-up, zero-bounded}
+use Rattle.ieee.proofs.Bounded.{Bounded, bounded-up}
 use Rattle.ieee.proofs.BoundedOperations.{add-bounded}
 use Rattle.quantile.specs.Tally.{tally}
 use Rattle.quantile.specs.Rising.{at}
-use Rattle.sums.specs.Numbers.{zero32}
+use Rattle.ieee.specs.Numbers.{plusZero}
 use Rattle.sums.specs.Admitted.{keeps, value, blockSum, blockCount, blocksSum, blocks, admittedBy}
 use Rattle.sums.proofs.Counts.{tally-few, tally-add}
 use Rattle.sums.proofs.Sums.{kept}
-use Rattle.bounds.proofs.Constants.{OutputBounded, outputMost, holds-block, holds-sum}
+use Rattle.bounds.proofs.Constants.{OutputBounded, outputMost, holds-block, holds-sum, plus-zero-bounded}
 
 -- ---- one window
 
@@ -36,10 +36,10 @@ nan-out t c g = go (lt g t)
 value-bounded : (t c g o : Float) → (o ≡ nan) ⊎ OutputBounded o → Bounded (value t c g o) false (cond (keeps t c g o) 1 0 * outputMost)
 value-bounded t c g o p = go (keeps t c g o) refl p
   where
-    go : (b : Bool) → keeps t c g o ≡ b → (o ≡ nan) ⊎ OutputBounded o → Bounded (cond b o zero32) false (cond b 1 0 * outputMost)
+    go : (b : Bool) → keeps t c g o ≡ b → (o ≡ nan) ⊎ OutputBounded o → Bounded (cond b o plusZero) false (cond b 1 0 * outputMost)
     go true e (inl z) = absurd (false≢true (sym (ap (keeps t c g) z ∙ nan-out t c g) ∙ e))
     go true e (inr h) = bounded-up o false outputMost (1 * outputMost) (lit≤ tt) h
-    go false e h = zero-bounded binary32 (0 * outputMost)
+    go false e h = plus-zero-bounded (0 * outputMost)
 
 -- ---- a block, the blocks and all that is admitted
 module _ (t c : Float) (g o : List Float) (h : Each OutputBounded o) where
@@ -47,7 +47,7 @@ module _ (t c : Float) (g o : List Float) (h : Each OutputBounded o) where
   output k = each-or OutputBounded nan o h k
 
   block-bounded : (a m : ℕ) → m ≤ 256 → Bounded (blockSum t c g o a m) false (blockCount t c g o a m * outputMost)
-  block-bounded a zero l = zero-bounded binary32 (0 * outputMost)
+  block-bounded a zero l = plus-zero-bounded (0 * outputMost)
   block-bounded a (suc m) l =
       let n = blockCount t c g o a m in
       let b : ℕ = cond (kept t c g o (a + m)) 1 0 in
@@ -64,7 +64,7 @@ module _ (t c : Float) (g o : List Float) (h : Each OutputBounded o) where
     count i = tally (kept t c g o) (reach i)
 
     blocks-bounded : (i : ℕ) → i * 256 ≤ length g + 255 → Bounded (blocksSum t c g o i) false (count i * outputMost)
-    blocks-bounded zero l = zero-bounded binary64 (count 0 * outputMost)
+    blocks-bounded zero l = plus-zero-bounded (count 0 * outputMost)
     blocks-bounded (suc i) l =
         let m = min 256 (length g - i * 256) in
         let b = blockCount t c g o (i * 256) m in

@@ -11,34 +11,35 @@ use borrow.Author.Tests.{ltb-false}
 use lib.Dec.{T, eqb, ltb, lit≤, lit<}
 use lib.ListN.{length, getD, drop, length-take, length-drop}
 use lib.IntN.{pos}
-use lib.Ieee.{Float, fin, binary32, binary64, ofBits, mul, le, fits}
+use lib.Ieee.{Float, fin, binary32, binary64, round, ofInt, mul, le, fits}
 use lib.Ieee.Exact.{HasValue}
 use Rattle.laws.specs.Lists.{Each}
 use Rattle.laws.proofs.Choice.{cond-both}
 use Rattle.laws.proofs.Each.{each-take, each-drop, each-from}
 use Rattle.ieee.proofs.ConvertFormat.{convert-fits}
-use Rattle.ieee.proofs.Bounded.{Bounded, zero-bounded}
+use Rattle.ieee.proofs.Bounded.{Bounded}
 use Rattle.ieee.proofs.BoundedOperations.{add-bounded, mul-bounded, div-bounded, sqrt-bounded, convert-bounded, whole-bounded}
-use Rattle.sums.specs.Numbers.{whole}
+use Rattle.ieee.specs.Numbers.{f64Of}
+use Rattle.sums.specs.Admitted.{noTotal}
 use Rattle.sums.specs.declared.Total.{Total}
 use Rattle.rounds.specs.Rounds.{band, imageVariance}
 use Rattle.rounds.specs.declared.Settled.{Settled}
 use Rattle.rounds.specs.declared.Found.{Found}
 use Rattle.rounds.specs.declared.Found.the-variants.{Variance, Missing}
-use Rattle.joining.specs.Numbers.{gain}
-use Rattle.joining.specs.Joining.{variances, median, lid, withBand, withFound, joinFrom, nothing, joined, minSamples, deviation, decided, sigmaOf, bandAt, founds, noiseUnder, noise}
+use Rattle.joining.specs.Numbers.{operatorGain}
+use Rattle.joining.specs.Joining.{variances, median, outlierLimit, withBand, withFound, joinFrom, joined, minSamples, deviation, decided, sigmaOf, bandAt, founds, noiseUnder, noise}
 use Rattle.joining.specs.declared.Sigma.the-variants.{Figure, Number}
 use Rattle.joining.specs.declared.Noise.{Noise}
 use Rattle.bounds.specs.Sigma.{sigmaMost}
-use Rattle.bounds.proofs.Constants.{OutputBounded, FoundBounded, varianceMost, SigmaBounded, holds-count, holds-joined, holds-variance, holds-root, rootMost, holds-sigma}
-use Rattle.bounds.proofs.Variances.{whole-value, band-bounded}
+use Rattle.bounds.proofs.Constants.{OutputBounded, FoundBounded, varianceMost, SigmaBounded, holds-count, holds-joined, holds-variance, holds-root, rootMost, holds-sigma, plus-zero-bounded}
+use Rattle.bounds.proofs.Variances.{f64-value, band-bounded}
 
 -- ---- the bands that are joined: after j of them
 pub record Joined (N j : ℕ) (k : Total) : Type 0 where
   pub few : k .n ≤ j * N
   pub sum : Bounded (k .sum) false (k .n * varianceMost)
 
-module _ (N : ℕ) (small : N ≤ 2 ^ 28) (most : Float) where
+module _ (N : ℕ) (small : N ≤ 2 ^ 28) (limit : Float) where
   -- up to four bands have no more than 2 ^ 30 windows
   four : (j n : ℕ) → j ≤ 4 → n ≤ j * N → n ≤ 2 ^ 30
   four j n h l = le-trans l (le-trans (mul-le-mul h small) (lit≤ tt))
@@ -50,27 +51,27 @@ module _ (N : ℕ) (small : N ≤ 2 ^ 28) (most : Float) where
         few = few;
         sum =
             add-bounded binary64 ((k .n + n) * varianceMost) (holds-joined (k .n + n) (four (suc j) (k .n + n) h few)) false
-            (k .sum) (mul binary64 (whole n) var) (k .n * varianceMost) (n * varianceMost) (le-of-eq (sym (add-mul (k .n) n varianceMost))) (J .sum)
-            (mul-bounded binary64 (n * varianceMost) (holds-joined n (omega arith)) false false (whole n) var n varianceMost (le-refl (n * varianceMost)) (whole-bounded binary64 n (holds-count n (omega arith)) (pos n) (le-refl n)) v);
+            (k .sum) (mul binary64 (f64Of n) var) (k .n * varianceMost) (n * varianceMost) (le-of-eq (sym (add-mul (k .n) n varianceMost))) (J .sum)
+            (mul-bounded binary64 (n * varianceMost) (holds-joined n (omega arith)) false false (f64Of n) var n varianceMost (le-refl (n * varianceMost)) (whole-bounded binary64 n (holds-count n (omega arith)) (pos n) (le-refl n)) v);
       }
 
-  with-found : (j : ℕ) (k : Total) (f : Found) → suc j ≤ 4 → Joined N j k → FoundBounded N f → Joined N (suc j) (withFound most k f)
-  with-found j k (Variance n var) h J s = cond-both (Joined N (suc j)) (le var most) (withBand k n var) k (with-band j k n var h J (s .0) (s .1)) (record { few = omega (arith, J .few); sum = J .sum })
+  with-found : (j : ℕ) (k : Total) (f : Found) → suc j ≤ 4 → Joined N j k → FoundBounded N f → Joined N (suc j) (withFound limit k f)
+  with-found j k (Variance n var) h J s = cond-both (Joined N (suc j)) (le var limit) (withBand k n var) k (with-band j k n var h J (s .0) (s .1)) (record { few = omega (arith, J .few); sum = J .sum })
   with-found j k Missing h J s = record { few = omega (arith, J .few); sum = J .sum }
 
-  join-from : (j : ℕ) (k : Total) (bands : List Found) → j + length bands ≤ 4 → Joined N j k → Each (FoundBounded N) bands → Joined N 4 (joinFrom most k bands)
+  join-from : (j : ℕ) (k : Total) (bands : List Found) → j + length bands ≤ 4 → Joined N j k → Each (FoundBounded N) bands → Joined N 4 (joinFrom limit k bands)
   join-from j k [] h J a = record { few = le-trans (J .few) (mul-le-mul-right N (go j h)); sum = J .sum }
     where
       go : (j : ℕ) → j + 0 ≤ 4 → j ≤ 4
       go j h = omega arith
-  join-from j k (f ∷ bands) h J a = join-from (suc j) (withFound most k f) bands (omega arith) (with-found j k f (omega arith) J (a .0)) (a .1)
+  join-from j k (f ∷ bands) h J a = join-from (suc j) (withFound limit k f) bands (omega arith) (with-found j k f (omega arith) J (a .0)) (a .1)
 
 -- ---- sigma of what is joined
-gain-is : gain ≡ fin false 5 (pos 2)
-unfolding ofBits
+gain-is : operatorGain ≡ fin false 5 (pos 2)
+unfolding ofInt round
 gain-is = refl
 
-gain-value : HasValue gain false 20 1
+gain-value : HasValue operatorGain false 20 1
 gain-value = subst (λ (x : Float). HasValue x false 20 1) (sym gain-is) (refl, refl)
 
 module _ (N : ℕ) (small : N ≤ 2 ^ 28) where
@@ -78,9 +79,9 @@ module _ (N : ℕ) (small : N ≤ 2 ^ 28) where
   unfolding deviation
   deviation-bounded k p J =
       convert-bounded binary32 sigmaMost (holds-sigma binary32) false _
-      (div-bounded binary64 sigmaMost (holds-sigma binary64) false false _ gain rootMost 20 1 (lit< tt) (lit< tt) (lit≤ tt)
+      (div-bounded binary64 sigmaMost (holds-sigma binary64) false false _ operatorGain rootMost 20 1 (lit< tt) (lit< tt) (lit≤ tt)
       (sqrt-bounded binary64 rootMost holds-root _ varianceMost (lit≤ tt)
-      (div-bounded binary64 varianceMost holds-variance false false (k .sum) (whole (k .n)) (k .n * varianceMost) (k .n) 1 p (lit< tt) (mean (k .n)) (J .sum) (whole-value (k .n) (omega (arith, J .few)))))
+      (div-bounded binary64 varianceMost holds-variance false false (k .sum) (f64Of (k .n)) (k .n * varianceMost) (k .n) 1 p (lit< tt) (mean (k .n)) (J .sum) (f64-value (k .n) (omega (arith, J .few)))))
       gain-value)
     where
       mean : (n : ℕ) → n * varianceMost * 1 ≤ varianceMost * n
@@ -91,8 +92,8 @@ module _ (N : ℕ) (small : N ≤ 2 ^ 28) where
   deviation-fits k = convert-fits binary32 _
 
   number-bounded : (n : ℕ) → SigmaBounded (Number n)
-  unfolding ofBits fits
-  number-bounded n = record { bounded = zero-bounded binary32 sigmaMost; fits = tt }
+  unfolding fits
+  number-bounded n = record { bounded = plus-zero-bounded sigmaMost; fits = tt }
 
   decided-bounded : (k : Total) → Joined N 4 k → SigmaBounded (decided k)
   unfolding decided
@@ -106,7 +107,7 @@ module _ (N : ℕ) (small : N ≤ 2 ^ 28) where
   unfolding sigmaOf joined
   sigma-bounded bands h a =
       cond-both SigmaBounded (eqb (length (variances bands)) 0) (Number 6) (decided (joined bands)) (number-bounded 6)
-      (decided-bounded (joined bands) (join-from N small (lid (median (variances bands))) 0 nothing bands (omega arith) (record { few = omega arith; sum = zero-bounded binary64 (0 * varianceMost) }) a))
+      (decided-bounded (joined bands) (join-from N small (outlierLimit (median (variances bands))) 0 noTotal bands (omega arith) (record { few = omega arith; sum = plus-zero-bounded (0 * varianceMost) }) a))
 
 -- ---- sigma of a list of gates and one of bounded outputs, wherever the bands start
 module _ (g o : List Float) (starts : List ℕ) (small : length g ≤ 2 ^ 28) (h : Each OutputBounded o) where

@@ -6,7 +6,8 @@ ghost use Rattle.quantile.specs.Quantile.{quiet};
 ghost use Rattle.sums.specs.Admitted.{admittedAt};
 ghost use Rattle.sums.specs.Start.{meanQuiet};
 ghost use Rattle.rounds.specs.Rounds.{bandVariance, imageVariance};
-ghost use Rattle.joining.specs.Joining.{countOf, varianceOf, noise, numberOf, figureOf};
+ghost use Rattle.joining.specs.Joining.{varianceOf, noise, numberOf, figureOf};
+ghost use Rattle.joining.specs.Windows.{windowsOf};
 ghost use Rattle.compare.specs.Bands.{InOrder, starts};
 use joining::Sigma;
 use rounds::Found;
@@ -58,7 +59,7 @@ pub extern "C" fn vuzgari_compare_admitted_sum(
 #[no_mangle]
 pub extern "C" fn vuzgari_compare_variance_count(gate: &[f32], op: &[f32], image_var: f64) -> usize
     requires { ⌜ length (now gate) ≡ length (now op) ⌝ }
-    ensures { λ r. ⌜ r ≡ countOf (bandVariance (now (gate .entry)) (now (op .entry)) «image_var» .found) ⌝ }
+    ensures { λ r. ⌜ r ≡ windowsOf (bandVariance (now (gate .entry)) (now (op .entry)) «image_var» .found) ⌝ }
 {
     let v = rounds::variance(gate, op, image_var);
     let f = v.found;

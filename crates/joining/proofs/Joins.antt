@@ -1,4 +1,4 @@
--- What the loops over the bands keep, and the answer by its stages. Assumes nothing.
+-- What the loops over the bands keep, and the answer by its stages. Assumes noTotal.
 use mathlib.Core.Path.{_≡_, refl, sym, ap, _∙_}
 use mathlib.Core.Bool.{true, false}
 use mathlib.Core.List.{List, [], _∷_, _++_, append-assoc, append-nil}
@@ -13,12 +13,14 @@ use borrow.Author.Tests.{eq-eqb, ne-eqb, lt-ltb, le-ltb}
 use Rattle.laws.proofs.Choice.{chosen, passed, cond-both}
 use Rattle.quantile.specs.Rising.{at, rising}
 use Rattle.quantile.proofs.Inserting.{rising-same}
-use Rattle.sums.specs.Numbers.{whole}
+use Rattle.ieee.specs.Numbers.{f64Of}
+use Rattle.sums.specs.Admitted.{totalOf, noTotal}
 use Rattle.sums.specs.declared.Total.{Total}
 use Rattle.rounds.specs.declared.Found.{Found}
 use Rattle.rounds.specs.declared.Found.the-variants.{Variance, Missing}
 use Rattle.joining.specs.Numbers.{half}
-use Rattle.joining.specs.Joining.{varianceOf, variances, middle, median, lid, withBand, withFound, joinFrom, nothing, joined, minSamples, deviation, decided, sigmaOf, countOf, counts}
+use Rattle.joining.specs.Joining.{varianceOf, variances, medianIn, median, outlierLimit, withBand, withFound, joinFrom, joined, minSamples, deviation, decided, sigmaOf}
+use Rattle.joining.specs.Windows.{windowsOf, windowsIn}
 use Rattle.joining.specs.declared.Sigma.{Sigma}
 use Rattle.joining.specs.declared.Sigma.the-variants.{Figure, Number}
 
@@ -67,9 +69,9 @@ abbrev two : List Float → ℕ → Float
 two l n = mul binary64 half (add binary64 (at l (n / 2 - 1)) (at l (n / 2)))
 
 module _ (vars : List Float) (n : ℕ) (long : length vars ≡ 4) (h : n ≤ 4) where
-  median-by : middle (rising (at vars) n) n ≡ median (take n vars)
+  median-by : medianIn (rising (at vars) n) n ≡ median (take n vars)
   unfolding median
-  median-by = ap (λ (r : List Float). middle r n) in-order ∙ sym (ap (λ (k : ℕ). middle (rising (at (take n vars)) k) k) first-n)
+  median-by = ap (λ (r : List Float). medianIn r n) in-order ∙ sym (ap (λ (k : ℕ). medianIn (rising (at (take n vars)) k) k) first-n)
     where
       first-n : length (take n vars) ≡ n
       first-n = length-take-le n vars (omega (arith, long))
@@ -90,52 +92,50 @@ module _ (vars : List Float) (n : ℕ) (long : length vars ≡ 4) (h : n ≤ 4) 
 
 -- ---- the bands that are joined
 
-module _ (most : Float) (k : Total) (f : Found) where
-  pub band-in : (n : ℕ) (var : Float) → f ≡ Variance n var → le var most ≡ true → {w : Float} → w ≡ whole n
-      → _≡_ {A = Total} (record { n = k .n + n; sum = add binary64 (k .sum) (mul binary64 w var) }) (withFound most k f)
+module _ (limit : Float) (k : Total) (f : Found) where
+  pub band-in : (n : ℕ) (var : Float) → f ≡ Variance n var → le var limit ≡ true → {w : Float} → w ≡ f64Of n
+      → totalOf (k .n + n) (add binary64 (k .sum) (mul binary64 w var)) ≡ withFound limit k f
   band-in n var e t q =
-      ap (λ (x : Float). with-weight x) q ∙ chosen (le var most) (withBand k n var) k t ∙ sym (ap (withFound most k) e)
-    where
-      with-weight : Float → Total
-      with-weight x = record { n = k .n + n; sum = add binary64 (k .sum) (mul binary64 x var) }
+      ap (λ (x : Float). totalOf (k .n + n) (add binary64 (k .sum) (mul binary64 x var))) q ∙ chosen (le var limit) (withBand k n var) k t
+      ∙ sym (ap (withFound limit k) e)
 
-  pub band-out : (n : ℕ) (var : Float) → f ≡ Variance n var → le var most ≡ false → k ≡ withFound most k f
-  band-out n var e t = passed (le var most) (withBand k n var) k t ∙ sym (ap (withFound most k) e)
+  pub band-out : (n : ℕ) (var : Float) → f ≡ Variance n var → le var limit ≡ false → k ≡ withFound limit k f
+  band-out n var e t = passed (le var limit) (withBand k n var) k t ∙ sym (ap (withFound limit k) e)
 
-pub count-is : (f : Found) {n : ℕ} {var : Float} → f ≡ Variance n var → countOf f ≡ n
-count-is f e = ap countOf e
+pub count-is : (f : Found) {n : ℕ} {var : Float} → f ≡ Variance n var → windowsOf f ≡ n
+count-is f e = ap windowsOf e
 
-found-few : (most : Float) (k : Total) (f : Found) → withFound most k f .n ≤ k .n + countOf f
-found-few most k (Variance n var) = cond-both (λ (x : Total). x .n ≤ k .n + n) (le var most) (withBand k n var) k (omega arith) (omega arith)
-found-few most k Missing = omega arith
+found-few : (limit : Float) (k : Total) (f : Found) → withFound limit k f .n ≤ k .n + windowsOf f
+found-few limit k (Variance n var) = cond-both (λ (x : Total). x .n ≤ k .n + n) (le var limit) (withBand k n var) k (omega arith) (omega arith)
+found-few limit k Missing = omega arith
 
 -- no more windows are joined than the bands admit
-pub join-few : (most : Float) (k : Total) (bands : List Found) → joinFrom most k bands .n ≤ k .n + counts bands
-join-few most k [] = omega arith
-join-few most k (f ∷ bands) = omega (arith, found-few most k f, join-few most (withFound most k f) bands)
+pub join-few : (limit : Float) (k : Total) (bands : List Found) → joinFrom limit k bands .n ≤ k .n + windowsIn bands
+join-few limit k [] = omega arith
+join-few limit k (f ∷ bands) = omega (arith, found-few limit k f, join-few limit (withFound limit k f) bands)
 
-pub record Joining (most : Float) (bands : List Found) (k : Total) (b : ℕ) : Type 0 where
+pub record Joining (limit : Float) (bands : List Found) (k : Total) (b : ℕ) : Type 0 where
   pub low : b ≤ 4
-  pub few : k .n + counts (drop b bands) ≤ counts bands
-  pub left : joinFrom most k (drop b bands) ≡ joinFrom most nothing bands
+  pub few : k .n + windowsIn (drop b bands) ≤ windowsIn bands
+  pub left : joinFrom limit k (drop b bands) ≡ joinFrom limit noTotal bands
 
-pub joining-start : (most : Float) (bands : List Found) → Joining most bands nothing 0
-joining-start most bands = record { low = omega arith; few = omega arith; left = refl }
+pub joining-start : (limit : Float) (bands : List Found) → Joining limit bands noTotal 0
+joining-start limit bands = record { low = omega arith; few = omega arith; left = refl }
 
-module _ {most : Float} {bands : List Found} {k : Total} {b : ℕ} (j : Joining most bands k b) (e : length bands ≡ 4) where
-  pub joining-room : b < 4 → (d : Found) → k .n + countOf (getD bands b d) ≤ counts bands
-  joining-room h d = omega (arith, j .few, ap counts (next-band bands b d (omega (arith, e))))
+module _ {limit : Float} {bands : List Found} {k : Total} {b : ℕ} (j : Joining limit bands k b) (e : length bands ≡ 4) where
+  pub joining-room : b < 4 → (d : Found) → k .n + windowsOf (getD bands b d) ≤ windowsIn bands
+  joining-room h d = omega (arith, j .few, ap windowsIn (next-band bands b d (omega (arith, e))))
 
-  pub joining-more : b < 4 → {k′ : Total} (d : Found) → k′ ≡ withFound most k (getD bands b d) → Joining most bands k′ (b + 1)
+  pub joining-more : b < 4 → {k′ : Total} (d : Found) → k′ ≡ withFound limit k (getD bands b d) → Joining limit bands k′ (b + 1)
   joining-more h {k′} d q =
       record {
         low = omega arith;
-        few = omega (arith, j .few, ap counts (next-band bands b d (omega (arith, e))), found-few most k (getD bands b d), ap (λ (x : Total). x .n) q);
-        left = ap (λ (x : Total). joinFrom most x (drop (b + 1) bands)) q ∙ sym (ap (joinFrom most k) (next-band bands b d (omega (arith, e)))) ∙ j .left;
+        few = omega (arith, j .few, ap windowsIn (next-band bands b d (omega (arith, e))), found-few limit k (getD bands b d), ap (λ (x : Total). x .n) q);
+        left = ap (λ (x : Total). joinFrom limit x (drop (b + 1) bands)) q ∙ sym (ap (joinFrom limit k) (next-band bands b d (omega (arith, e)))) ∙ j .left;
       }
 
-  pub joining-end : 4 ≤ b → k ≡ joinFrom most nothing bands
-  joining-end h = sym (ap (joinFrom most k) (drop-of-length-le bands {i = b} (omega (arith, e)))) ∙ j .left
+  pub joining-end : 4 ≤ b → k ≡ joinFrom limit noTotal bands
+  joining-end h = sym (ap (joinFrom limit k) (drop-of-length-le bands {i = b} (omega (arith, e)))) ∙ j .left
 
 -- ---- the answer
 
@@ -155,9 +155,9 @@ module _ (bands : List Found) (vars : List Float) (n : ℕ) (e : take n vars ≡
   unfolding sigmaOf
   sigma-none z = chosen (eqb (length (variances bands)) 0) (Number 6) (decided (joined bands)) (eq-eqb (length (variances bands)) 0 (length-is ∙ z))
 
-  pub sigma-is : (n ≡ 0 → ⊥) → {m : Float} → m ≡ median (take n vars) → {most : Float} → most ≡ lid m → {k : Total} → k ≡ joinFrom most nothing bands
+  pub sigma-is : (n ≡ 0 → ⊥) → {m : Float} → m ≡ median (take n vars) → {limit : Float} → limit ≡ outlierLimit m → {k : Total} → k ≡ joinFrom limit noTotal bands
       → {s : Sigma} → s ≡ decided k → s ≡ sigmaOf bands
   unfolding sigmaOf joined
-  sigma-is z {m} p {most} q {k} r {s} t =
-      t ∙ ap decided (r ∙ ap (λ (x : Float). joinFrom x nothing bands) (q ∙ ap lid (p ∙ ap median e)))
+  sigma-is z {m} p {limit} q {k} r {s} t =
+      t ∙ ap decided (r ∙ ap (λ (x : Float). joinFrom x noTotal bands) (q ∙ ap outlierLimit (p ∙ ap median e)))
       ∙ passed (eqb (length (variances bands)) 0) (Number 6) (decided (joined bands)) (ne-eqb (length (variances bands)) 0 (λ y. z (sym length-is ∙ y)))

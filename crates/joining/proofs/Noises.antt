@@ -1,4 +1,4 @@
--- What the loop of `noise_sigma` keeps, and the answer from the pass. Assumes nothing.
+-- What the loop of `noise_sigma` keeps, and the answer from the pass. Assumes noTotal.
 use mathlib.Core.Path.{_≡_, refl, sym, ap, _∙_, subst}
 use mathlib.Core.List.{List}
 use Prim.Native.Nat.{ℕ, zero, suc, _+_, _-_, _*_, _≤_, _<_}
@@ -18,12 +18,13 @@ use Rattle.rounds.specs.declared.Found.{Found}
 use Rattle.rounds.specs.declared.BandVariance.{BandVariance}
 use Rattle.rounds.proofs.Bands.{length-part, within}
 use Rattle.rounds.proofs.Bounds.{image-rounds, variance-rounds, variance-holds}
-use Rattle.joining.specs.Joining.{bandAt, founds, bandRounds, noiseUnder, noise, minSamples, sigmaOf, countOf, counts}
+use Rattle.joining.specs.Joining.{bandAt, founds, bandRounds, noiseUnder, noise, minSamples, sigmaOf}
+use Rattle.joining.specs.Windows.{windowsOf, windowsIn}
 use Rattle.joining.specs.declared.Sigma.{Sigma}
 use Rattle.joining.specs.declared.Sigma.the-variants.{Number}
 use Rattle.joining.specs.declared.Noise.{Noise}
 
--- ---- rounds and counts fit
+-- ---- rounds and windowsIn fit
 
 pub rounds-few : (g o : List Float) (starts : List ℕ) (image : Float) (b : ℕ) → bandRounds g o starts image b ≤ 12 * b
 rounds-few g o starts image zero = omega arith
@@ -32,18 +33,18 @@ rounds-few g o starts image (suc b) =
 
 module _ {g o : List Float} {starts : List ℕ} (B : Bands g o starts) (image : Float) where
   -- a band admits no more windows than it has
-  band-few : (b : ℕ) → b < 4 → getD starts b 0 + countOf (bandAt g o starts image b .found) ≤ getD starts (b + 1) 0
+  band-few : (b : ℕ) → b < 4 → getD starts b 0 + windowsOf (bandAt g o starts image b .found) ≤ getD starts (b + 1) 0
   band-few b h =
-      variance-holds (band g starts b) (band o starts b) image (λ (f : Found). getD starts b 0 + countOf f ≤ getD starts (b + 1) 0)
+      variance-holds (band g starts b) (band o starts b) image (λ (f : Found). getD starts b 0 + windowsOf f ≤ getD starts (b + 1) 0)
       (omega (arith, B .rise b h))
       (λ n var l. omega (arith, l, B .rise b h, length-part g (getD starts b 0) (getD starts (b + 1) 0) (within B (b + 1) (omega arith))))
 
-  counts-from : (n b : ℕ) → b + n ≡ 4 → getD starts b 0 + counts (from (λ (i : ℕ). bandAt g o starts image i .found) b n) ≤ length g
+  counts-from : (n b : ℕ) → b + n ≡ 4 → getD starts b 0 + windowsIn (from (λ (i : ℕ). bandAt g o starts image i .found) b n) ≤ length g
   counts-from zero b h = omega (arith, within B b (omega arith))
   counts-from (suc n) b h =
       omega (arith, band-few b (omega arith), counts-from n (suc b) (omega arith), ap (λ (k : ℕ). getD starts k 0) (add-one b))
 
-  pub counts-few : counts (founds g o starts image) ≤ length g
+  pub counts-few : windowsIn (founds g o starts image) ≤ length g
   counts-few = omega (arith, counts-from 4 0 refl)
 
 -- ---- b bands are done
@@ -82,9 +83,9 @@ module _ {g o : List Float} {starts : List ℕ} (image : Settled) (e : image ≡
   pub gathered-bands : 4 ≤ b → bands ≡ founds g o starts (image .var)
   gathered-bands h = tab-end (G .tab) h
 
-  pub gathered-join : Bands g o starts → 4 ≤ b → (length bands ≡ 4) × (counts bands ≤ length g)
+  pub gathered-join : Bands g o starts → 4 ≤ b → (length bands ≡ 4) × (windowsIn bands ≤ length g)
   gathered-join B h =
-      (G .tab .long, subst (λ (l : List Found). counts l ≤ length g) (sym (gathered-bands h)) (counts-few B (image .var)))
+      (G .tab .long, subst (λ (l : List Found). windowsIn l ≤ length g) (sym (gathered-bands h)) (counts-few B (image .var)))
 
   pub gathered-end : minSamples ≤ length g → 4 ≤ b → {s : Sigma} → s ≡ sigmaOf bands → _≡_ {A = Noise} (record { sigma = s; rounds = r }) (noise g o starts)
   unfolding noise noiseUnder

@@ -1,4 +1,4 @@
--- Each of document 01's numbers is an exact inequality, and sigma is zero unless the number is 0. Assumes nothing.
+-- Each of document 01's numbers is an exact inequality, and sigma is zero unless the number is 0. Assumes noTotal.
 use mathlib.Core.Path.{_≡_, refl, sym, ap, _∙_, subst}
 use mathlib.Core.List.{List}
 use mathlib.Core.Logic.{_⊎_, inl, inr}
@@ -10,12 +10,13 @@ use lib.Dec.{ltb, eqb}
 use borrow.Author.Tests.{lt-ltb, le-ltb, eq-eqb, ne-eqb}
 use Rattle.ieee.proofs.Naturals.{le-or-lt}
 use Rattle.laws.proofs.Choice.{chosen, passed, cond-both}
-use Rattle.sums.specs.Numbers.{zero32}
+use Rattle.ieee.specs.Numbers.{plusZero}
+use Rattle.sums.specs.Admitted.{noTotal}
 use Rattle.sums.specs.declared.Total.{Total}
 use Rattle.rounds.specs.Rounds.{imageVariance, Bands}
 use Rattle.rounds.specs.declared.Found.{Found}
 use Rattle.rounds.proofs.Bounds.{image-rounds}
-use Rattle.joining.specs.Joining.{variances, median, lid, nothing, joined, minSamples, deviation, decided, sigmaOf, founds, noiseUnder, noise, numberOf, figureOf}
+use Rattle.joining.specs.Joining.{variances, median, outlierLimit, joined, minSamples, deviation, decided, sigmaOf, founds, noiseUnder, noise, numberOf, figureOf}
 use Rattle.joining.specs.declared.Sigma.{Sigma}
 use Rattle.joining.specs.declared.Sigma.the-variants.{Figure, Number}
 use Rattle.joining.specs.declared.Noise.{Noise}
@@ -88,7 +89,7 @@ module _ (g o : List Float) (starts : List ℕ) where
   -- no more windows are joined than are kept
   pub held-few : Bands g o starts → joined bands .n ≤ length g
   unfolding joined
-  held-few B = omega (arith, join-few (lid (median (variances bands))) nothing bands, counts-few B (imageVariance g o starts .var))
+  held-few B = omega (arith, join-few (outlierLimit (median (variances bands))) noTotal bands, counts-few B (imageVariance g o starts .var))
 
   -- the rounds of the image and of four bands
   pub noise-rounds : noise g o starts .rounds ≤ 60
@@ -97,6 +98,6 @@ module _ (g o : List Float) (starts : List ℕ) where
       cond-both (λ (x : Noise). x .rounds ≤ 60) (ltb (length g) minSamples) (record { sigma = Number 5; rounds = 0 }) (noiseUnder g o starts (imageVariance g o starts)) (omega arith)
       (omega (arith, image-rounds g o starts, rounds-few g o starts (imageVariance g o starts .var) 4))
 
-pub no-figure : (s : Sigma) → (numberOf s ≡ 0 → ⊥) → figureOf s ≡ zero32
+pub no-figure : (s : Sigma) → (numberOf s ≡ 0 → ⊥) → figureOf s ≡ plusZero
 no-figure (Figure s) h = absurd (h refl)
 no-figure (Number n) h = refl

@@ -10,14 +10,16 @@ use Rattle.ieee.specs.Order.{larger}
 use Rattle.ieee.specs.Sqrt.{sqrt}
 use Rattle.laws.specs.Lists.{from}
 use Rattle.quantile.specs.Rising.{at, rising}
-use Rattle.sums.specs.Numbers.{zero32, zero64, whole, rounding}
+use Rattle.ieee.specs.Numbers.{plusZero, f64Of}
+use Rattle.sums.specs.Numbers.{roundingOpVar}
+use Rattle.sums.specs.Admitted.{totalOf, noTotal}
 use Rattle.rounds.specs.Rounds.{band, bandVariance, imageVariance}
 use Rattle.sums.specs.declared.Total.{Total}
 use Rattle.rounds.specs.declared.Settled.{Settled}
 use Rattle.rounds.specs.declared.Found.{Found}
 use Rattle.rounds.specs.declared.Found.the-variants.{Variance, Missing}
 use Rattle.rounds.specs.declared.BandVariance.{BandVariance}
-use Rattle.joining.specs.Numbers.{outlier, gain, half}
+use Rattle.joining.specs.Numbers.{maxBandOutlier, operatorGain, half}
 use Rattle.joining.specs.declared.Sigma.{Sigma}
 use Rattle.joining.specs.declared.Sigma.the-variants.{Figure, Number}
 use Rattle.joining.specs.declared.Noise.{Noise}
@@ -32,37 +34,34 @@ abbrev pub variances : List Found → List Float
 variances [] = []
 variances (f ∷ bands) = varianceOf f ++ variances bands
 
--- of m numbers in rising order the middle one, or half the sum of the middle two
-abbrev pub middle : List Float → ℕ → Float
-middle l m = cond (eqb (m % 2) 1) (at l (m / 2)) (mul binary64 half (add binary64 (at l (m / 2 - 1)) (at l (m / 2))))
+-- of m numbers in rising order the medianIn one, or half the sum of the medianIn two
+abbrev pub medianIn : List Float → ℕ → Float
+medianIn l m = cond (eqb (m % 2) 1) (at l (m / 2)) (mul binary64 half (add binary64 (at l (m / 2 - 1)) (at l (m / 2))))
 
 unfoldable pub median : List Float → Float
-median vars = middle (rising (at vars) (length vars)) (length vars)
+median vars = medianIn (rising (at vars) (length vars)) (length vars)
 
 -- ---- the bands that are joined
 
 -- a band's variance is at most this
-unfoldable pub lid : Float → Float
-lid med = mul binary64 outlier (larger med rounding)
+unfoldable pub outlierLimit : Float → Float
+outlierLimit med = mul binary64 maxBandOutlier (larger med roundingOpVar)
 
 -- a band of n admitted windows joins, and adds its variance n times
 abbrev pub withBand : Total → ℕ → Float → Total
-withBand k n var = record { n = k .n + n; sum = add binary64 (k .sum) (mul binary64 (whole n) var) }
+withBand k n var = totalOf (k .n + n) (add binary64 (k .sum) (mul binary64 (f64Of n) var))
 
 abbrev pub withFound : Float → Total → Found → Total
-withFound most k (Variance n var) = cond (le var most) (withBand k n var) k
-withFound most k Missing = k
+withFound limit k (Variance n var) = cond (le var limit) (withBand k n var) k
+withFound limit k Missing = k
 
 -- k and then each band in turn
 abbrev pub joinFrom : Float → Total → List Found → Total
-joinFrom most k [] = k
-joinFrom most k (f ∷ bands) = joinFrom most (withFound most k f) bands
-
-abbrev pub nothing : Total
-nothing = record { n = 0; sum = zero64 }
+joinFrom limit k [] = k
+joinFrom limit k (f ∷ bands) = joinFrom limit (withFound limit k f) bands
 
 unfoldable pub joined : List Found → Total
-joined bands = joinFrom (lid (median (variances bands))) nothing bands
+joined bands = joinFrom (outlierLimit (median (variances bands))) noTotal bands
 
 -- ---- the answer
 
@@ -70,9 +69,9 @@ joined bands = joinFrom (lid (median (variances bands))) nothing bands
 abbrev pub minSamples : ℕ
 minSamples = 512
 
--- the root of the mean variance, over the operator's gain, rounded to f32
+-- the root of the mean variance, over the operator's operatorGain, rounded to f32
 unfoldable pub deviation : Total → Float
-deviation k = convert binary32 (div binary64 (sqrt binary64 (div binary64 (k .sum) (whole (k .n)))) gain)
+deviation k = convert binary32 (div binary64 (sqrt binary64 (div binary64 (k .sum) (f64Of (k .n)))) operatorGain)
 
 unfoldable pub decided : Total → Sigma
 decided k = cond (ltb (k .n) minSamples) (Number 7) (Figure (deviation k))
@@ -108,13 +107,4 @@ numberOf (Number n) = n
 
 abbrev pub figureOf : Sigma → Float
 figureOf (Figure s) = s
-figureOf (Number n) = zero32
-
--- how many windows the bands admit
-abbrev pub countOf : Found → ℕ
-countOf (Variance n var) = n
-countOf Missing = 0
-
-abbrev pub counts : List Found → ℕ
-counts [] = 0
-counts (f ∷ bands) = countOf f + counts bands
+figureOf (Number n) = plusZero

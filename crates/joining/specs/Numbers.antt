@@ -1,28 +1,29 @@
--- The constants of the joining, each the f64 nearest to its number.
+-- Constants of the joining by the rule that gives them: the f64 nearest to the number. Their patterns stand beside them.
 use mathlib.Core.Path.{_≡_, refl}
 use mathlib.Core.Bool.{false}
-use lib.Ieee.{Float, binary64, ofBits, round}
+use lib.Ieee.{Float, binary64, ofBits, ofInt, round}
+use Rattle.ieee.specs.Numbers.{f64Of}
 
--- MAX_BAND_OUTLIER: 3
-abbrev pub outlier : Float
-outlier = ofBits binary64 0x4008_0000_0000_0000
+-- MAX_BAND_OUTLIER
+abbrev pub maxBandOutlier : Float
+maxBandOutlier = f64Of 3
 
-pub outlier-is : outlier ≡ round binary64 false 3 1
-unfolding ofBits round
-outlier-is = refl
+pub max-band-outlier-bits : ofBits binary64 0x4008_0000_0000_0000 ≡ maxBandOutlier
+unfolding ofBits ofInt round
+max-band-outlier-bits = refl
 
--- OPERATOR_GAIN: 20
-abbrev pub gain : Float
-gain = ofBits binary64 0x4034_0000_0000_0000
+-- OPERATOR_GAIN
+abbrev pub operatorGain : Float
+operatorGain = f64Of 20
 
-pub gain-is : gain ≡ round binary64 false 20 1
-unfolding ofBits round
-gain-is = refl
+pub operator-gain-bits : ofBits binary64 0x4034_0000_0000_0000 ≡ operatorGain
+unfolding ofBits ofInt round
+operator-gain-bits = refl
 
 -- 0.5
 abbrev pub half : Float
-half = ofBits binary64 0x3FE0_0000_0000_0000
+half = round binary64 false 1 2
 
-pub half-is : half ≡ round binary64 false 1 2
+pub half-bits : ofBits binary64 0x3FE0_0000_0000_0000 ≡ half
 unfolding ofBits round
-half-is = refl
+half-bits = refl

@@ -4,9 +4,11 @@ ghost use mathlib.Core.List.{_++_};
 ghost use Prim.Native.Nat.{ℕ, _+_, _-_, _*_, _^_, _≤_, _<_};
 ghost use lib.ListN.{length, take};
 ghost use Rattle.quantile.specs.Rising.{at, rising, inserted, Rises};
+ghost use Rattle.sums.specs.Admitted.{noTotal};
 ghost use Rattle.rounds.specs.Rounds.{part, bandVariance, Bands};
 ghost use Rattle.joining.specs.Joining as Joining;
-ghost use Rattle.joining.specs.Joining.{variances, varianceOf, withFound, joinFrom, deviation, decided, sigmaOf, noise, counts, countOf};
+ghost use Rattle.joining.specs.Joining.{variances, varianceOf, withFound, joinFrom, decided, sigmaOf, noise};
+ghost use Rattle.joining.specs.Windows.{windowsOf, windowsIn};
 use rounds::Found;
 use sums::Total;
 
@@ -76,7 +78,7 @@ fn band_variance(
 
 // The answer from the bands.
 fn join(bands: [Found; 4]) -> Sigma
-    requires { ⌜ (length bands ≡ 4) × (counts bands < 2 ^ 64) ⌝ }
+    requires { ⌜ (length bands ≡ 4) × (windowsIn bands < 2 ^ 64) ⌝ }
     ensures { λ r. ⌜ r ≡ sigmaOf bands ⌝ }
 {
     let mut vars = [0.0f64; 4];
@@ -84,8 +86,8 @@ fn join(bands: [Found; 4]) -> Sigma
     if n == 0 {
         return Sigma::Number(6);
     }
-    let most = lid(median(&vars, n));
-    decide(joined(bands, most))
+    let limit = outlier_limit(median(&vars, n));
+    decide(joined(bands, limit))
 }
 
 // The variances that there are go to the front of vars. The answer is how many there are.
@@ -170,38 +172,38 @@ fn insert(least: &mut [f64; 4], v: f64)
 }
 
 // A band that is joined has at most this variance.
-fn lid(median: f64) -> f64
-    ensures { λ r. ⌜ r ≡ Joining.lid median ⌝ }
+fn outlier_limit(median: f64) -> f64
+    ensures { λ r. ⌜ r ≡ Joining.outlierLimit median ⌝ }
 {
     MAX_BAND_OUTLIER * float::max64(median, sums::ROUNDING_OP_VAR)
 }
 
-// The bands whose variance is at most most: how many windows they admit, and their variances' sum, each times its count.
-fn joined(bands: [Found; 4], most: f64) -> Total
-    requires { ⌜ (length bands ≡ 4) × (counts bands < 2 ^ 64) ⌝ }
-    ensures { λ r. ⌜ r ≡ joinFrom most (Joining.nothing) bands ⌝ }
+// The bands whose variance is at most limit: how many windows they admit, and their variances' sum, each times its count.
+fn joined(bands: [Found; 4], limit: f64) -> Total
+    requires { ⌜ (length bands ≡ 4) × (windowsIn bands < 2 ^ 64) ⌝ }
+    ensures { λ r. ⌜ r ≡ joinFrom limit noTotal bands ⌝ }
 {
     let mut k = Total { n: 0, sum: 0.0 };
     let mut b: usize = 0;
     while b < rounds::BANDS {
         let f = bands[b];
-        k = add_band(k, f, most);
+        k = add_band(k, f, limit);
         b += 1;
     }
     k
 }
 
 // k and a band, where it joins.
-fn add_band(k: Total, f: Found, most: f64) -> Total
-    requires { ⌜ k .n + countOf f < 2 ^ 64 ⌝ }
-    ensures { λ r. ⌜ r ≡ withFound most k f ⌝ }
+fn add_band(k: Total, f: Found, limit: f64) -> Total
+    requires { ⌜ k .n + windowsOf f < 2 ^ 64 ⌝ }
+    ensures { λ r. ⌜ r ≡ withFound limit k f ⌝ }
 {
     match f {
         Found::Variance(n, var) => {
-            if var <= most {
+            if var <= limit {
                 return Total {
                     n: k.n + n,
-                    sum: k.sum + sums::whole(n) * var,
+                    sum: k.sum + sums::f64_of(n) * var,
                 };
             }
             k
@@ -224,5 +226,5 @@ fn decide(k: Total) -> Sigma
 fn deviation(k: Total) -> f32
     ensures { λ r. ⌜ r ≡ Joining.deviation k ⌝ }
 {
-    convert::to_f32(roots::sqrt64(k.sum / sums::whole(k.n)) / OPERATOR_GAIN)
+    convert::to_f32(roots::sqrt64(k.sum / sums::f64_of(k.n)) / OPERATOR_GAIN)
 }

@@ -12,10 +12,12 @@ use lib.Ieee.{Float, binary64, add, mul, lt}
 use borrow.Author.Tests.{lt-ltb, le-ltb, lt-leb, le-leb}
 use Rattle.ieee.specs.Order.{larger}
 use Rattle.laws.proofs.Choice.{chosen, passed}
-use Rattle.sums.specs.Numbers.{zero64, rounding}
-use Rattle.rounds.specs.Numbers.{ratio}
+use Rattle.ieee.specs.Numbers.{plusZero}
+use Rattle.sums.specs.Numbers.{roundingOpVar}
+use Rattle.sums.specs.Admitted.{totalOf}
+use Rattle.rounds.specs.Numbers.{maxBandRatio}
 use Rattle.sums.specs.Start.{start}
-use Rattle.rounds.specs.Rounds.{settle, bandTotal, minBand, judged, bandBy, bandVariance, part, band, Bands, bandsTotal, imageTotal, imageVariance}
+use Rattle.rounds.specs.Rounds.{settle, bandTotal, minBandSamples, judged, bandBy, bandVariance, part, band, Bands, bandsTotal, imageTotal, imageVariance}
 use Rattle.sums.specs.declared.Total.{Total}
 use Rattle.rounds.specs.declared.Settled.{Settled}
 use Rattle.rounds.specs.declared.Found.{Found}
@@ -29,22 +31,22 @@ module _ (s : Settled) (image : Float) where
   abbrev found : Found
   found = Variance (s .n) (s .var)
 
-  pub judged-few : s .n < minBand → Missing ≡ judged s image
+  pub judged-few : s .n < minBandSamples → Missing ≡ judged s image
   unfolding judged
   judged-few h =
-      sym (ap (λ (x : Bool). cond (x && not (lt (mul binary64 ratio (larger image rounding)) (s .var))) found Missing) (lt-leb minBand (s .n) h))
+      sym (ap (λ (x : Bool). cond (x && not (lt (mul binary64 maxBandRatio (larger image roundingOpVar)) (s .var))) found Missing) (lt-leb minBandSamples (s .n) h))
 
-  module _ (h : minBand ≤ s .n) {m : Float} (e : m ≡ larger image rounding) where
-    by-ratio : cond (not (lt (mul binary64 ratio m) (s .var))) found Missing ≡ judged s image
+  module _ (h : minBandSamples ≤ s .n) {m : Float} (e : m ≡ larger image roundingOpVar) where
+    by-ratio : cond (not (lt (mul binary64 maxBandRatio m) (s .var))) found Missing ≡ judged s image
     unfolding judged
     by-ratio =
-        ap (λ (x : Float). cond (not (lt (mul binary64 ratio x) (s .var))) found Missing) e
-        ∙ sym (ap (λ (x : Bool). cond (x && not (lt (mul binary64 ratio (larger image rounding)) (s .var))) found Missing) (le-leb minBand (s .n) h))
+        ap (λ (x : Float). cond (not (lt (mul binary64 maxBandRatio x) (s .var))) found Missing) e
+        ∙ sym (ap (λ (x : Bool). cond (x && not (lt (mul binary64 maxBandRatio (larger image roundingOpVar)) (s .var))) found Missing) (le-leb minBandSamples (s .n) h))
 
-    pub judged-high : lt (mul binary64 ratio m) (s .var) ≡ true → Missing ≡ judged s image
+    pub judged-high : lt (mul binary64 maxBandRatio m) (s .var) ≡ true → Missing ≡ judged s image
     judged-high t = sym (ap (λ (x : Bool). cond (not x) found Missing) t) ∙ by-ratio
 
-    pub judged-good : lt (mul binary64 ratio m) (s .var) ≡ false → found ≡ judged s image
+    pub judged-good : lt (mul binary64 maxBandRatio m) (s .var) ≡ false → found ≡ judged s image
     judged-good t = sym (ap (λ (x : Bool). cond (not x) found Missing) t) ∙ by-ratio
 
 abbrev none : BandVariance
@@ -54,16 +56,16 @@ module _ (g o : List Float) (image : Float) where
   abbrev by-rounds : BandVariance
   by-rounds = bandBy (settle (bandTotal g o) (start g o)) image
 
-  pub variance-few : length g < minBand → none ≡ bandVariance g o image
+  pub variance-few : length g < minBandSamples → none ≡ bandVariance g o image
   unfolding bandVariance
-  variance-few h = chosen (ltb (length g) minBand) none by-rounds (lt-ltb (length g) minBand h)
+  variance-few h = chosen (ltb (length g) minBandSamples) none by-rounds (lt-ltb (length g) minBandSamples h)
 
-  pub variance-is : minBand ≤ length g → {v : Float} → v ≡ start g o → {s : Settled} → s ≡ settle (bandTotal g o) v
+  pub variance-is : minBandSamples ≤ length g → {v : Float} → v ≡ start g o → {s : Settled} → s ≡ settle (bandTotal g o) v
       → {f : Found} → f ≡ judged s image → _≡_ {A = BandVariance} (record { found = f; rounds = s .rounds }) (bandVariance g o image)
   unfolding bandVariance
   variance-is h {v} p {s} q {f} e =
       ap (λ (x : Found). with-found x) e ∙ ap (λ (x : Settled). bandBy x image) (q ∙ ap (settle (bandTotal g o)) p)
-      ∙ passed (ltb (length g) minBand) none by-rounds (le-ltb (length g) minBand h)
+      ∙ passed (ltb (length g) minBandSamples) none by-rounds (le-ltb (length g) minBandSamples h)
     where
       with-found : Found → BandVariance
       with-found x = record { found = x; rounds = s .rounds }
@@ -109,7 +111,7 @@ pub record Joined (g o : List Float) (starts : List ℕ) (var : Float) (s : Floa
   pub sum : s ≡ bandsTotal g o starts var b .sum
   pub count : n ≡ bandsTotal g o starts var b .n
 
-pub joined-start : (g o : List Float) (starts : List ℕ) (var : Float) → Joined g o starts var zero64 0 0
+pub joined-start : (g o : List Float) (starts : List ℕ) (var : Float) → Joined g o starts var plusZero 0 0
 joined-start g o starts var = record { low = omega arith; sum = refl; count = refl }
 
 module _ {g o : List Float} {starts : List ℕ} {var s : Float} {n b : ℕ} (j : Joined g o starts var s n b) where
@@ -131,15 +133,11 @@ module _ {g o : List Float} {starts : List ℕ} {var s : Float} {n b : ℕ} (j :
   joined-few B h {k} e =
       omega (arith, joined-more h e .count, bands-few B var (b + 1) (omega arith), within B (b + 1) (omega arith))
 
-  pub joined-end : 4 ≤ b → _≡_ {A = Total} (record { n = n; sum = s }) (imageTotal g o starts var)
+  pub joined-end : 4 ≤ b → totalOf n s ≡ imageTotal g o starts var
   unfolding imageTotal
   joined-end h =
-      ap (λ (x : ℕ). total x s) (j .count) ∙ ap (total (bandsTotal g o starts var b .n)) (j .sum) ∙ ap (bandsTotal g o starts var) (le-antisymm (j .low) h)
-    where
-      total : ℕ → Float → Total
-      total n s = record { n = n; sum = s }
+      ap (λ (x : ℕ). totalOf x s) (j .count) ∙ ap (totalOf (bandsTotal g o starts var b .n)) (j .sum) ∙ ap (bandsTotal g o starts var) (le-antisymm (j .low) h)
 
-pub image-is : (g o : List Float) (starts : List ℕ) {v : Float} → v ≡ start g o → {r : Settled} → r ≡ settle (imageTotal g o starts) v
-    → r ≡ imageVariance g o starts
+pub image-is : (g o : List Float) (starts : List ℕ) {r : Settled} → r ≡ settle (imageTotal g o starts) (start g o) → r ≡ imageVariance g o starts
 unfolding imageVariance
-image-is g o starts p q = q ∙ ap (settle (imageTotal g o starts)) p
+image-is g o starts e = e

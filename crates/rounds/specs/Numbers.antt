@@ -1,28 +1,29 @@
--- The constants of the rounds, each the f64 nearest to its number.
+-- Constants of the rounds by the rule that gives them: the f64 nearest to the number. Their patterns stand beside them.
 use mathlib.Core.Path.{_≡_, refl}
 use mathlib.Core.Bool.{false}
-use lib.Ieee.{Float, binary64, ofBits, round}
+use lib.Ieee.{Float, binary64, ofBits, ofInt, round}
+use Rattle.ieee.specs.Numbers.{f64Of}
 
--- MAX_BAND_RATIO: 8
-abbrev pub ratio : Float
-ratio = ofBits binary64 0x4020_0000_0000_0000
+-- MAX_BAND_RATIO
+abbrev pub maxBandRatio : Float
+maxBandRatio = f64Of 8
 
-pub ratio-is : ratio ≡ round binary64 false 8 1
+pub max-band-ratio-bits : ofBits binary64 0x4020_0000_0000_0000 ≡ maxBandRatio
+unfolding ofBits ofInt round
+max-band-ratio-bits = refl
+
+-- SETTLED
+abbrev pub settledFraction : Float
+settledFraction = round binary64 false 1 1000
+
+pub settled-fraction-bits : ofBits binary64 0x3F50_624D_D2F1_A9FC ≡ settledFraction
 unfolding ofBits round
-ratio-is = refl
+settled-fraction-bits = refl
 
--- SETTLED: 0.001
-abbrev pub settled : Float
-settled = ofBits binary64 0x3F50_624D_D2F1_A9FC
+-- TRUNC_SECOND_MOMENT
+abbrev pub truncSecondMoment : Float
+truncSecondMoment = round binary64 false 998929 1000000
 
-pub settled-is : settled ≡ round binary64 false 1 1000
+pub trunc-second-moment-bits : ofBits binary64 0x3FEF_F739_F340_D4DC ≡ truncSecondMoment
 unfolding ofBits round
-settled-is = refl
-
--- TRUNC_SECOND_MOMENT: 0.998929
-abbrev pub moment : Float
-moment = ofBits binary64 0x3FEF_F739_F340_D4DC
-
-pub moment-is : moment ≡ round binary64 false 998929 1000000
-unfolding ofBits round
-moment-is = refl
+trunc-second-moment-bits = refl

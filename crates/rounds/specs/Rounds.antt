@@ -1,18 +1,20 @@
 -- The rounds of the image and of a band: noise.rs, `Sample::image_variance` and `Band::variance`; document 01, "Rounds".
 use mathlib.Core.Path.{_≡_}
-use mathlib.Core.Bool.{Bool, cond, not, _&&_, _||_}
+use mathlib.Core.Bool.{Bool, true, cond, not, _&&_, _||_}
 use mathlib.Core.List.{List}
 use Prim.Native.Nat.{ℕ, zero, suc, _+_, _-_, _≤_, _<_}
 use lib.Dec.{eqb, ltb, leb}
 use lib.ListN.{length, getD, take, drop}
 use lib.Ieee.{Float, binary64, add, sub, mul, div, lt, le}
 use Rattle.ieee.specs.Order.{larger, magnitude}
-use Rattle.sums.specs.Numbers.{zero64, whole, rounding}
-use Rattle.rounds.specs.Numbers.{ratio, settled, moment}
-use Rattle.sums.specs.Admitted.{admittedAt}
+use Rattle.ieee.specs.Numbers.{f64Of}
+use Rattle.sums.specs.Numbers.{roundingOpVar}
+use Rattle.rounds.specs.Numbers.{maxBandRatio, settledFraction, truncSecondMoment}
+use Rattle.sums.specs.Admitted.{totalOf, noTotal, admittedAt}
 use Rattle.sums.specs.Start.{start}
 use Rattle.sums.specs.declared.Total.{Total}
 use Rattle.rounds.specs.declared.Settled.{Settled}
+use Rattle.rounds.specs.declared.Round.{Round}
 use Rattle.rounds.specs.declared.Found.{Found}
 use Rattle.rounds.specs.declared.Found.the-variants.{Variance, Missing}
 use Rattle.rounds.specs.declared.BandVariance.{BandVariance}
@@ -21,36 +23,39 @@ use Rattle.rounds.specs.declared.BandVariance.{BandVariance}
 
 -- the next variance
 unfoldable pub next : Total → Float
-next k = div binary64 (div binary64 (k .sum) (whole (k .n))) moment
+next k = div binary64 (div binary64 (k .sum) (f64Of (k .n))) truncSecondMoment
 
 -- as many are admitted as before, or the variance moves by a thousandth at most
 unfoldable pub near : ℕ → ℕ → Float → Float → Bool
-near n prev new var = eqb n prev || le (magnitude (sub binary64 new var)) (mul binary64 settled var)
+near n prev new var = eqb n prev || le (magnitude (sub binary64 new var)) (mul binary64 settledFraction var)
 
 abbrev pub settledAt : ℕ → Float → ℕ → Settled
 settledAt n var r = record { n = n; var = var; rounds = r }
 
--- one round with k admitted, of r before it: it is the last where it admits none or settles, and `more` follows otherwise
-abbrev pub round : Total → Float → ℕ → ℕ → Settled → Settled
-round k var prev r more =
-    cond (eqb (k .n) 0) (settledAt 0 var (r + 1))
-    (cond (near (k .n) prev (next k) var) (settledAt (k .n) (next k) (r + 1)) more)
+abbrev pub roundOf : Settled → Bool → Round
+roundOf s last = record { settled = s; last = last }
 
--- `left` rounds at most, from a variance and the count before
-abbrev pub rounds : (Float → Total) → ℕ → Float → ℕ → ℕ → Settled
-rounds f zero var prev r = settledAt prev var r
-rounds f (suc left) var prev r = round (f var) var prev r (rounds f left (next (f var)) (f var .n) (r + 1))
+-- one round that admits k, after those that ended at s: it is the last where it admits none or settles
+unfoldable pub oneRound : Total → Settled → Round
+oneRound k s =
+    cond (eqb (k .n) 0) (roundOf (settledAt 0 (s .var) (s .rounds + 1)) true)
+    (roundOf (settledAt (k .n) (next k) (s .rounds + 1)) (near (k .n) (s .n) (next k) (s .var)))
+
+-- at most `left` rounds more, after those that ended at s
+abbrev pub roundsFrom : (Float → Total) → ℕ → Settled → Settled
+roundsFrom f zero s = s
+roundsFrom f (suc left) s = cond (oneRound (f (s .var)) s .last) (oneRound (f (s .var)) s .settled) (roundsFrom f left (oneRound (f (s .var)) s .settled))
 
 -- ROUNDS
-unfoldable pub most : ℕ
-most = 12
+unfoldable pub maxRounds : ℕ
+maxRounds = 12
 
--- usize::MAX: no count stands before the first round
-abbrev pub noCount : ℕ
-noCount = 18446744073709551615
+-- before the first round: no count, which is usize::MAX
+abbrev pub startAt : Float → Settled
+startAt var = settledAt 18446744073709551615 var 0
 
 unfoldable pub settle : (Float → Total) → Float → Settled
-settle f var = rounds f most var noCount 0
+settle f var = roundsFrom f maxRounds (startAt var)
 
 -- ---- a band
 
@@ -58,13 +63,13 @@ abbrev pub bandTotal : List Float → List Float → Float → Total
 bandTotal g o var = admittedAt g o var var
 
 -- MIN_BAND_SAMPLES
-abbrev pub minBand : ℕ
-minBand = 128
+abbrev pub minBandSamples : ℕ
+minBandSamples = 128
 
 -- a variance counts where it rests on 128 windows and is not above 8 times the image's
 unfoldable pub judged : Settled → Float → Found
 judged s image =
-    cond (leb minBand (s .n) && not (lt (mul binary64 ratio (larger image rounding)) (s .var))) (Variance (s .n) (s .var)) Missing
+    cond (leb minBandSamples (s .n) && not (lt (mul binary64 maxBandRatio (larger image roundingOpVar)) (s .var))) (Variance (s .n) (s .var)) Missing
 
 abbrev pub bandBy : Settled → Float → BandVariance
 bandBy s image = record { found = judged s image; rounds = s .rounds }
@@ -72,7 +77,7 @@ bandBy s image = record { found = judged s image; rounds = s .rounds }
 -- a band under 128 windows has no variance and no rounds
 unfoldable pub bandVariance : List Float → List Float → Float → BandVariance
 bandVariance g o image =
-    cond (ltb (length g) minBand) (record { found = Missing; rounds = 0 }) (bandBy (settle (bandTotal g o) (start g o)) image)
+    cond (ltb (length g) minBandSamples) (record { found = Missing; rounds = 0 }) (bandBy (settle (bandTotal g o) (start g o)) image)
 
 -- ---- the image: four bands one after the other, band b from start b to start (b + 1)
 
@@ -87,13 +92,13 @@ pub record Bands (g o : List Float) (starts : List ℕ) : Type 0 where
   pub rise : (b : ℕ) → b < 4 → getD starts b 0 ≤ getD starts (b + 1) 0
   pub last : getD starts 4 0 ≤ length g
 
-abbrev pub plus : Total → Total → Total
-plus k l = record { n = k .n + l .n; sum = add binary64 (k .sum) (l .sum) }
+abbrev pub addTotal : Total → Total → Total
+addTotal k l = totalOf (k .n + l .n) (add binary64 (k .sum) (l .sum))
 
 -- what the first b bands admit: blocks start anew at each band
 abbrev pub bandsTotal : List Float → List Float → List ℕ → Float → ℕ → Total
-bandsTotal g o starts var zero = record { n = 0; sum = zero64 }
-bandsTotal g o starts var (suc b) = plus (bandsTotal g o starts var b) (bandTotal (band g starts b) (band o starts b) var)
+bandsTotal g o starts var zero = noTotal
+bandsTotal g o starts var (suc b) = addTotal (bandsTotal g o starts var b) (bandTotal (band g starts b) (band o starts b) var)
 
 unfoldable pub imageTotal : List Float → List Float → List ℕ → Float → Total
 imageTotal g o starts var = bandsTotal g o starts var 4

@@ -1,6 +1,6 @@
 // The rounds of a pass: noise.rs, `Band::variance` and `Sample::image_variance`.
 ghost use mathlib.Core.Path.{_≡_};
-ghost use Prim.Native.Nat.{_≤_};
+ghost use Prim.Native.Nat.{_≤_, _<_};
 ghost use lib.ListN.{length};
 ghost use Rattle.sums.specs.Start as Start;
 ghost use Rattle.rounds.specs.Rounds as Rounds;
@@ -15,6 +15,8 @@ const MIN_BAND_SAMPLES: usize = 128;
 const SETTLED: f64 = 0.001;
 // The most rounds.
 const ROUNDS: usize = 12;
+// No count stands before the first round.
+const NO_COUNT: usize = 18446744073709551615;
 // Intensity bands.
 pub const BANDS: usize = 4;
 // The mean square of a standard normal number that lies within TRUNC of 0.
@@ -25,6 +27,12 @@ pub struct Settled {
     pub n: usize,
     pub var: f64,
     pub rounds: usize,
+}
+
+// A round, and whether it is the last one.
+struct Round {
+    settled: Settled,
+    last: bool,
 }
 
 // A band's admitted count and variance.
@@ -64,40 +72,57 @@ fn start(gate: &[f32], op: &[f32]) -> f64
     sums::mean_quiet(op, gate, quantile::quantile(gate))
 }
 
-// The rounds of a band.
+// The rounds of a band. There are no closures, so this loop stands once more, over what the image admits; the round itself is `one_round`.
 fn settle(gate: &[f32], op: &[f32], start: f64) -> Settled
     requires { ⌜ length (now gate) ≡ length (now op) ⌝ }
     ensures { λ r. ⌜ r ≡ Rounds.settle (bandTotal (now (gate .entry)) (now (op .entry))) start ⌝ }
 {
-    let mut var = start;
-    let mut prev: usize = 18446744073709551615;
-    let mut r: usize = 0;
-    while r < ROUNDS {
-        let k = sums::admitted(gate, op, var, var);
-        let n = k.n;
-        r += 1;
-        if n == 0 {
-            return Settled {
-                n: 0,
-                var: var,
-                rounds: r,
-            };
+    let mut s = start_at(start);
+    while s.rounds < ROUNDS {
+        let t = one_round(sums::admitted(gate, op, s.var, s.var), s);
+        if t.last {
+            return t.settled;
         }
-        let new = next(k);
-        if near(n, prev, new, var) {
-            return Settled {
-                n: n,
-                var: new,
-                rounds: r,
-            };
-        }
-        var = new;
-        prev = n;
+        s = t.settled;
     }
+    s
+}
+
+// Before the first round.
+fn start_at(var: f64) -> Settled
+    ensures { λ r. ⌜ r ≡ Rounds.startAt var ⌝ }
+{
     Settled {
-        n: prev,
+        n: NO_COUNT,
         var: var,
-        rounds: r,
+        rounds: 0,
+    }
+}
+
+// One round that admits k, after those that ended at s.
+fn one_round(k: Total, s: Settled) -> Round
+    requires { ⌜ s .rounds < 12 ⌝ }
+    ensures { λ r. ⌜ r ≡ Rounds.oneRound k s ⌝ }
+{
+    let rounds = s.rounds + 1;
+    if k.n == 0 {
+        return Round {
+            settled: Settled {
+                n: 0,
+                var: s.var,
+                rounds: rounds,
+            },
+            last: true,
+        };
+    }
+    let new = next(k);
+    Round {
+        settled: Settled {
+            n: k.n,
+            var: new,
+            rounds: rounds,
+        },
+        last: near(k.n, s.n, new, s.var),
     }
 }
 
@@ -105,7 +130,7 @@ fn settle(gate: &[f32], op: &[f32], start: f64) -> Settled
 fn next(k: Total) -> f64
     ensures { λ r. ⌜ r ≡ Rounds.next k ⌝ }
 {
-    k.sum / sums::whole(k.n) / TRUNC_SECOND_MOMENT
+    k.sum / sums::f64_of(k.n) / TRUNC_SECOND_MOMENT
 }
 
 // Whether the rounds end here.
@@ -136,36 +161,15 @@ pub fn image_variance(gate: &[f32], op: &[f32], starts: &[usize; 5]) -> Settled
     requires { ⌜ Bands (now gate) (now op) (now starts) ⌝ }
     ensures { λ r. ⌜ r ≡ imageVariance (now (gate .entry)) (now (op .entry)) (now (starts .entry)) ⌝ }
 {
-    let mut var = start(gate, op);
-    let mut prev: usize = 18446744073709551615;
-    let mut rounds: usize = 0;
-    while rounds < ROUNDS {
-        let k = image_admitted(gate, op, starts, var);
-        let n = k.n;
-        rounds += 1;
-        if n == 0 {
-            return Settled {
-                n: 0,
-                var: var,
-                rounds: rounds,
-            };
+    let mut s = start_at(start(gate, op));
+    while s.rounds < ROUNDS {
+        let t = one_round(image_admitted(gate, op, starts, s.var), s);
+        if t.last {
+            return t.settled;
         }
-        let new = next(k);
-        if near(n, prev, new, var) {
-            return Settled {
-                n: n,
-                var: new,
-                rounds: rounds,
-            };
-        }
-        var = new;
-        prev = n;
+        s = t.settled;
     }
-    Settled {
-        n: prev,
-        var: var,
-        rounds: rounds,
-    }
+    s
 }
 
 // The windows admitted in the four bands, each summed by itself.

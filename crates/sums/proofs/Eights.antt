@@ -13,9 +13,9 @@ use lib.Ieee.{Float, nan, binary32, binary64, add}
 use borrow.Author.Needs.{read-below, read-above}
 use Rattle.quantile.specs.Tally.{tally}
 use Rattle.quantile.specs.Rising.{at}
-use Rattle.sums.specs.Numbers.{zero32, zero64}
-use Rattle.sums.specs.Admitted.{value, blockSum, blockCount, blocksSum}
-use Rattle.sums.specs.Lanes.{Lanes, Whole, lanesSum, lanesCount}
+use Rattle.ieee.specs.Numbers.{plusZero}
+use Rattle.sums.specs.Admitted.{value, blockSum, blockCount, blocksSum, noTotal}
+use Rattle.sums.specs.Lanes.{Lanes, CountsFit, lanesSum, lanesCount}
 use Rattle.sums.specs.declared.Total.{Total}
 use Rattle.sums.proofs.Counts.{tally-few}
 use Rattle.sums.proofs.Sums.{kept, sum-next, Added, added-start, added-more}
@@ -90,16 +90,16 @@ module _ {t c : Float} {g o : List Float} {a i : ℕ} {s : List Float} {n : List
 
 -- ---- all windows of the eight blocks
 
-pub lanes-start : (t c : Float) (g o : List Float) (a : ℕ) → Lanes t c g o a 0 (replicate 8 zero32) (replicate 8 0)
+pub lanes-start : (t c : Float) (g o : List Float) (a : ℕ) → Lanes t c g o a 0 (replicate 8 plusZero) (replicate 8 0)
 lanes-start t c g o a =
-    record { sums-long = refl; counts-long = refl; sums = λ j q. getD-replicate 8 j zero32 nan q; counts = λ j q. getD-replicate 8 j 0 0 q }
+    record { sums-long = refl; counts-long = refl; sums = λ j q. getD-replicate 8 j plusZero nan q; counts = λ j q. getD-replicate 8 j 0 0 q }
 
 pub lanes-end : {t c : Float} {g o : List Float} {a i : ℕ} {s : List Float} {n : List ℕ} → Lanes t c g o a i s n → i ≤ 256 → 256 ≤ i
     → Lanes t c g o a 256 s n
 lanes-end {t} {c} {g} {o} {a} {i} {s} {n} L p q = subst (λ (k : ℕ). Lanes t c g o a k s n) (le-antisymm p q) L
 
-pub lanes-whole : {t c : Float} {g o : List Float} {a : ℕ} {s : List Float} {n : List ℕ} → Lanes t c g o a 256 s n → Whole n
-lanes-whole {t} {c} {g} {o} {a} L =
+pub counts-fit : {t c : Float} {g o : List Float} {a : ℕ} {s : List Float} {n : List ℕ} → Lanes t c g o a 256 s n → CountsFit n
+counts-fit {t} {c} {g} {o} {a} L =
     record { each = λ j q. subst (λ (x : ℕ). x ≤ 256) (sym (L .counts j q)) (count-few t c g o (a + j * 256) 256) }
 
 -- ---- the lanes added up
@@ -114,7 +114,7 @@ pub up-start : (x : List Float) (y : List ℕ) (s : Float) (n : ℕ) → Up x y 
 up-start x y s n = record { low = omega arith; sum = refl; count = refl; few = omega arith }
 
 module _ {x : List Float} {y : List ℕ} {s₀ s : Float} {n₀ n l : ℕ} (u : Up x y s₀ n₀ s n l) where
-  pub up-more : l < 8 → {v : Float} → v ≡ at x l → Whole y → Up x y s₀ n₀ (add binary64 s v) (n + getD y l 0) (l + 1)
+  pub up-more : l < 8 → {v : Float} → v ≡ at x l → CountsFit y → Up x y s₀ n₀ (add binary64 s v) (n + getD y l 0) (l + 1)
   up-more h {v} e w =
       record {
         low = omega arith;
@@ -138,7 +138,7 @@ module _ {t c : Float} {g o : List Float} {s : Float} {n i : ℕ} (I : Added t c
       none i = omega arith
   added-lanes (suc l) q =
       subst (Added t c g o (lanesSum x s (suc l)) (lanesCount y n (suc l))) (next i l)
-      (added-more (added-lanes l (omega arith)) (omega arith) (whole l (omega arith))
+      (added-more (added-lanes l (omega arith)) (omega arith) (full l (omega arith))
       (L .counts l (omega arith) ∙ ap (λ (z : ℕ). blockCount t c g o z 256) (place i l)) refl
       (L .sums l (omega arith) ∙ ap (λ (z : ℕ). blockSum t c g o z 256) (place i l)))
     where
@@ -148,15 +148,15 @@ module _ {t c : Float} {g o : List Float} {s : Float} {n i : ℕ} (I : Added t c
       place : (i l : ℕ) → i * 256 + l * 256 ≡ (i + l) * 256
       place i l = omega arith
 
-      whole : (l : ℕ) → l < 8 → 256 ≡ min 256 (length g - (i + l) * 256)
-      whole l q = omega arith
+      full : (l : ℕ) → l < 8 → 256 ≡ min 256 (length g - (i + l) * 256)
+      full l q = omega arith
 
 -- a loop that has done j of m times eight blocks
 pub record Eights (t c : Float) (g o : List Float) (m : ℕ) (k : Total) (j : ℕ) : Type 0 where
   pub low : j ≤ m
   pub added : Added t c g o (k .sum) (k .n) (j * 8)
 
-pub eights-start : (t c : Float) (g o : List Float) (m : ℕ) → Eights t c g o m (record { n = 0; sum = zero64 }) 0
+pub eights-start : (t c : Float) (g o : List Float) (m : ℕ) → Eights t c g o m noTotal 0
 eights-start t c g o m = record { low = omega arith; added = added-start t c g o }
 
 module _ {t c : Float} {g o : List Float} {m : ℕ} {k : Total} {j : ℕ} (E : Eights t c g o m k j) (room : m * 2048 ≤ length g) where

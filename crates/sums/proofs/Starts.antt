@@ -12,23 +12,23 @@ use borrow.Author.Tests.{eq-eqb, ne-eqb}
 use Rattle.laws.proofs.Choice.{chosen, passed}
 use Rattle.quantile.specs.Rising.{at}
 use Rattle.quantile.specs.Quantile.{quiet}
-use Rattle.sums.specs.Numbers.{zero64, whole}
+use Rattle.ieee.specs.Numbers.{plusZero, f64Of}
 use Rattle.sums.specs.Start.{isQuiet, quietSum, mean, meanQuiet, start}
 use Rattle.sums.proofs.Counts.{Tallied, tallied-start, tallied-few, tallied-more, tallied-end}
 
-pub mean-none : (sum : Float) (n : ℕ) → n ≡ 0 → zero64 ≡ mean sum n
+pub mean-none : (sum : Float) (n : ℕ) → n ≡ 0 → plusZero ≡ mean sum n
 unfolding mean
-mean-none sum n h = chosen (eqb n 0) zero64 (div binary64 sum (whole n)) (eq-eqb n 0 h)
+mean-none sum n h = chosen (eqb n 0) plusZero (div binary64 sum (f64Of n)) (eq-eqb n 0 h)
 
-pub mean-is : (sum : Float) (n : ℕ) → (n ≡ 0 → ⊥) → {w : Float} → w ≡ whole n → div binary64 sum w ≡ mean sum n
+pub mean-is : (sum : Float) (n : ℕ) → (n ≡ 0 → ⊥) → {w : Float} → w ≡ f64Of n → div binary64 sum w ≡ mean sum n
 unfolding mean
-mean-is sum n h e = ap (div binary64 sum) e ∙ passed (eqb n 0) zero64 (div binary64 sum (whole n)) (ne-eqb n 0 h)
+mean-is sum n h e = ap (div binary64 sum) e ∙ passed (eqb n 0) plusZero (div binary64 sum (f64Of n)) (ne-eqb n 0 h)
 
 pub record Quiet (o g : List Float) (q : Float) (s : Float) (n k : ℕ) : Type 0 where
   pub counted : Tallied (isQuiet g q) (length g) n k
   pub sum : s ≡ quietSum o g q k
 
-pub quiet-start : (o g : List Float) (q : Float) → Quiet o g q zero64 0 0
+pub quiet-start : (o g : List Float) (q : Float) → Quiet o g q plusZero 0 0
 quiet-start o g q = record { counted = tallied-start (isQuiet g q) (length g); sum = refl }
 
 module _ {o g : List Float} {q s : Float} {n k : ℕ} (i : Quiet o g q s n k) where

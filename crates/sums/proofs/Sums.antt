@@ -10,9 +10,8 @@ use lib.ListN.{length}
 use lib.Ieee.{Float, binary32, binary64, add}
 use Rattle.quantile.specs.Tally.{tally}
 use Rattle.quantile.specs.Rising.{at}
-use Rattle.sums.specs.Numbers.{zero32, zero64}
-use Rattle.sums.specs.Admitted.{threshold, cut, keeps, value, blockSum, blocksSum, blocks, admittedBy, admittedAt}
-use Rattle.sums.specs.declared.Total.{Total}
+use Rattle.ieee.specs.Numbers.{plusZero}
+use Rattle.sums.specs.Admitted.{threshold, cut, keeps, value, blockSum, blocksSum, blocks, totalOf, admittedBy, admittedAt}
 use Rattle.sums.proofs.Counts.{tally-few, tally-add}
 
 module _ (t c : Float) (g o : List Float) where
@@ -25,7 +24,7 @@ pub record Summed (t c : Float) (g o : List Float) (a m : ℕ) (s : Float) (k : 
   pub low : k ≤ m
   pub sum : s ≡ blockSum t c g o a k
 
-pub summed-start : (t c : Float) (g o : List Float) (a m : ℕ) → Summed t c g o a m zero32 0
+pub summed-start : (t c : Float) (g o : List Float) (a m : ℕ) → Summed t c g o a m plusZero 0
 summed-start t c g o a m = record { low = omega arith; sum = refl }
 
 -- a window more, added to a block's sum
@@ -51,7 +50,7 @@ pub record Added (t c : Float) (g o : List Float) (s : Float) (n i : ℕ) : Type
   pub sum : s ≡ blocksSum t c g o i
   pub count : n ≡ tally (kept t c g o) (min (i * 256) (length g))
 
-pub added-start : (t c : Float) (g o : List Float) → Added t c g o zero64 0 0
+pub added-start : (t c : Float) (g o : List Float) → Added t c g o plusZero 0 0
 added-start t c g o = record { low = omega arith; sum = refl; count = ap (tally (kept t c g o)) (none (length g)) }
   where
     none : (l : ℕ) → 0 ≡ min (0 * 256) l
@@ -79,13 +78,10 @@ module _ {t c : Float} {g o : List Float} {s : Float} {n i : ℕ} (I : Added t c
       next : (i l m : ℕ) → i * 256 < l → m ≡ min 256 (l - i * 256) → i * 256 + m ≡ min ((i + 1) * 256) l
       next i l m h e = omega arith
 
-  abbrev total : ℕ → Float → Total
-  total n s = record { n = n; sum = s }
-
-  pub added-end : (gv ov : Float) → t ≡ threshold gv → c ≡ cut ov → length g ≤ i * 256 → total n s ≡ admittedAt g o gv ov
+  pub added-end : (gv ov : Float) → t ≡ threshold gv → c ≡ cut ov → length g ≤ i * 256 → totalOf n s ≡ admittedAt g o gv ov
   added-end gv ov p q h =
-      ap (λ (x : ℕ). total x s) (I .count ∙ ap (tally (kept t c g o)) (all i (length g) h))
-      ∙ ap (total (tally (kept t c g o) (length g))) (I .sum ∙ ap (blocksSum t c g o) (last i (length g) (I .low) h))
+      ap (λ (x : ℕ). totalOf x s) (I .count ∙ ap (tally (kept t c g o)) (all i (length g) h))
+      ∙ ap (totalOf (tally (kept t c g o) (length g))) (I .sum ∙ ap (blocksSum t c g o) (last i (length g) (I .low) h))
       ∙ ap (λ (x : Float). admittedBy x c g o) p ∙ ap (λ (x : Float). admittedBy (threshold gv) x g o) q
     where
       all : (i l : ℕ) → l ≤ i * 256 → min (i * 256) l ≡ l

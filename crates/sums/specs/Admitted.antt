@@ -8,26 +8,27 @@ use Rattle.ieee.specs.Convert.{convert}
 use Rattle.ieee.specs.Order.{larger}
 use Rattle.quantile.specs.Tally.{tally}
 use Rattle.quantile.specs.Rising.{at}
-use Rattle.sums.specs.Numbers.{zero32, zero64, gate, trunc, rounding}
+use Rattle.ieee.specs.Numbers.{plusZero}
+use Rattle.sums.specs.Numbers.{gateFactor, trunc, roundingOpVar}
 use Rattle.sums.specs.declared.Total.{Total}
 
--- a gate is below the one, an output at most the other; both are rounded to f32
+-- a gate is below the one, a squared output at most the other: both products are rounded to f64 and then to f32
 unfoldable pub threshold : Float → Float
-threshold var = convert binary32 (mul binary64 gate (larger var rounding))
+threshold var = convert binary32 (mul binary64 gateFactor (larger var roundingOpVar))
 
 unfoldable pub cut : Float → Float
-cut var = convert binary32 (mul binary64 (mul binary64 trunc trunc) (larger var rounding))
+cut var = convert binary32 (mul binary64 (mul binary64 trunc trunc) (larger var roundingOpVar))
 
 -- a window of that gate and output is admitted, and adds so much to its block
 abbrev pub keeps : Float → Float → Float → Float → Bool
 keeps t c g o = lt g t && le o c
 
 abbrev pub value : Float → Float → Float → Float → Float
-value t c g o = cond (keeps t c g o) o zero32
+value t c g o = cond (keeps t c g o) o plusZero
 
 -- the m windows from window a on, summed in f32
 abbrev pub blockSum : Float → Float → List Float → List Float → ℕ → ℕ → Float
-blockSum t c g o a zero = zero32
+blockSum t c g o a zero = plusZero
 blockSum t c g o a (suc m) = add binary32 (blockSum t c g o a m) (value t c (at g (a + m)) (at o (a + m)))
 
 -- how many of them are admitted
@@ -36,16 +37,23 @@ blockCount t c g o a m = tally (λ (k : ℕ). keeps t c (at g (a + k)) (at o (a 
 
 -- the first i blocks, of 256 windows each but for the last, summed in f64
 abbrev pub blocksSum : Float → Float → List Float → List Float → ℕ → Float
-blocksSum t c g o zero = zero64
+blocksSum t c g o zero = plusZero
 blocksSum t c g o (suc i) = add binary64 (blocksSum t c g o i) (blockSum t c g o (i * 256) (min 256 (length g - i * 256)))
 
 -- how many blocks n windows make
 abbrev pub blocks : ℕ → ℕ
 blocks n = (n + 255) / 256
 
+abbrev pub totalOf : ℕ → Float → Total
+totalOf n sum = record { n = n; sum = sum }
+
+-- no windows
+abbrev pub noTotal : Total
+noTotal = totalOf 0 plusZero
+
 -- how many windows are admitted, and their sum by blocks
 abbrev pub admittedBy : Float → Float → List Float → List Float → Total
-admittedBy t c g o = record { n = tally (λ (k : ℕ). keeps t c (at g k) (at o k)) (length g); sum = blocksSum t c g o (blocks (length g)) }
+admittedBy t c g o = totalOf (tally (λ (k : ℕ). keeps t c (at g k) (at o k)) (length g)) (blocksSum t c g o (blocks (length g)))
 
 abbrev pub admittedAt : List Float → List Float → Float → Float → Total
 admittedAt g o gateVar opVar = admittedBy (threshold gateVar) (cut opVar) g o

@@ -1,4 +1,4 @@
--- Eight blocks summed side by side: lane l has the block from window a + 256 l on.
+-- What only the code's loops over eight blocks side by side need; no definition uses it. Lane l has the block from window a + 256 l on.
 use mathlib.Core.Path.{_≡_}
 use mathlib.Core.List.{List}
 use Prim.Native.Nat.{ℕ, zero, suc, _+_, _*_, _≤_, _<_}
@@ -15,7 +15,7 @@ pub record Lanes (t c : Float) (g o : List Float) (a i : ℕ) (block : List Floa
   pub counts : (l : ℕ) → l < 8 → getD count l 0 ≡ blockCount t c g o (a + l * 256) i
 
 -- none of eight counts is above a block's windows
-pub record Whole (count : List ℕ) : Type 0 where
+pub record CountsFit (count : List ℕ) : Type 0 where
   pub each : (l : ℕ) → l < 8 → getD count l 0 ≤ 256
 
 -- sum and the first l lanes, added in f64 in block order

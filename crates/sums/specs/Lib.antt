@@ -1,6 +1,6 @@
--- The constants, the admitted windows, eight blocks side by side and the start of the rounds.
+-- The constants, the admitted windows and the start of the rounds; then what the loops over eight blocks need.
 pub mod Numbers
 pub mod Admitted
-pub mod Lanes
 pub mod Start
 pub mod Examples
+pub mod Lanes

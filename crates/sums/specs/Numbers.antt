@@ -1,40 +1,29 @@
--- Constants of noise.rs, each the f64 nearest to its number.
+-- Constants of noise.rs by the rule that gives them: the f64 nearest to the number. Their patterns stand beside them.
 use mathlib.Core.Path.{_≡_, refl}
 use mathlib.Core.Bool.{false}
-use Prim.Native.Nat.{ℕ}
-use lib.IntN.{pos}
-use lib.Ieee.{Float, binary32, binary64, ofBits, ofInt, round}
+use lib.Ieee.{Float, binary64, ofBits, ofInt, round}
+use Rattle.ieee.specs.Numbers.{f64Of}
 
-abbrev pub zero32 : Float
-zero32 = ofBits binary32 0
+-- GATE
+abbrev pub gateFactor : Float
+gateFactor = f64Of 20
 
-abbrev pub zero64 : Float
-zero64 = ofBits binary64 0
+pub gate-factor-bits : ofBits binary64 0x4034_0000_0000_0000 ≡ gateFactor
+unfolding ofBits ofInt round
+gate-factor-bits = refl
 
--- n as an f64
-abbrev pub whole : ℕ → Float
-whole n = ofInt binary64 (pos n)
-
--- GATE: 20
-abbrev pub gate : Float
-gate = ofBits binary64 0x4034_0000_0000_0000
-
-pub gate-is : gate ≡ round binary64 false 20 1
-unfolding ofBits round
-gate-is = refl
-
--- TRUNC: 4
+-- TRUNC
 abbrev pub trunc : Float
-trunc = ofBits binary64 0x4010_0000_0000_0000
+trunc = f64Of 4
 
-pub trunc-is : trunc ≡ round binary64 false 4 1
+pub trunc-bits : ofBits binary64 0x4010_0000_0000_0000 ≡ trunc
+unfolding ofBits ofInt round
+trunc-bits = refl
+
+-- ROUNDING_OP_VAR
+abbrev pub roundingOpVar : Float
+roundingOpVar = round binary64 false 400 12
+
+pub rounding-op-var-bits : ofBits binary64 0x4040_AAAA_AAAA_AAAB ≡ roundingOpVar
 unfolding ofBits round
-trunc-is = refl
-
--- ROUNDING_OP_VAR: 400 / 12
-abbrev pub rounding : Float
-rounding = ofBits binary64 0x4040_AAAA_AAAA_AAAB
-
-pub rounding-is : rounding ≡ round binary64 false 400 12
-unfolding ofBits round
-rounding-is = refl
+rounding-op-var-bits = refl

@@ -5,12 +5,12 @@ ghost use mathlib.Core.Bool.{cond};
 ghost use Prim.Native.Nat.{ℕ, _+_, _-_, _*_, _≤_, _<_, min};
 ghost use lib.ListN.{length};
 ghost use lib.Ieee.{binary64, add, le};
+ghost use Rattle.ieee.specs.Numbers.{f64Of};
 ghost use Rattle.quantile.specs.Tally.{tally};
 ghost use Rattle.quantile.specs.Rising.{at};
-ghost use Rattle.sums.specs.Numbers as Numbers;
 ghost use Rattle.sums.specs.Admitted as Admitted;
 ghost use Rattle.sums.specs.Admitted.{keeps, blockSum, blockCount, blocksSum, admittedAt};
-ghost use Rattle.sums.specs.Lanes.{Lanes, Whole, lanesSum, lanesCount};
+ghost use Rattle.sums.specs.Lanes.{Lanes, CountsFit, lanesSum, lanesCount};
 ghost use Rattle.sums.specs.Start as Start;
 ghost use Rattle.sums.specs.Start.{meanQuiet};
 
@@ -177,7 +177,7 @@ fn add_window(
 
 // k and the eight lanes, in block order.
 fn add_lanes(k: Total, block: &[f32; 8], count: &[u32; 8]) -> Total
-    requires { ⌜ (k .n < 9223372036854775808) × Whole (now count) ⌝ }
+    requires { ⌜ (k .n < 9223372036854775808) × CountsFit (now count) ⌝ }
     ensures { λ r. ⌜ (r .n ≡ lanesCount (now (count .entry)) (k .n) 8) × (r .sum ≡ lanesSum (now (block .entry)) (k .sum) 8) ⌝ }
 {
     let mut n = k.n;
@@ -247,12 +247,12 @@ fn one_quiet(g: f32, quiet: f32) -> usize
 fn mean(sum: f64, n: usize) -> f64
     ensures { λ r. ⌜ r ≡ Start.mean sum n ⌝ }
 {
-    if n == 0 { 0.0 } else { sum / whole(n) }
+    if n == 0 { 0.0 } else { sum / f64_of(n) }
 }
 
 // n as an f64.
-pub fn whole(n: usize) -> f64
-    ensures { λ r. ⌜ r ≡ Numbers.whole n ⌝ }
+pub fn f64_of(n: usize) -> f64
+    ensures { λ r. ⌜ r ≡ f64Of n ⌝ }
 {
     std::num::nearest_u64_to_f64(n as u64)
 }

@@ -1,4 +1,4 @@
--- `join` meets its contract, stage by stage. Assumes nothing.
+-- `join` meets its contract, stage by stage. Assumes noTotal.
 use borrow.Author.Needs.{needs}
 use Rattle.joining.proofs.Joins.{sigma-none, sigma-is}
 use Rattle.joining.proofs.join.Statement.{statement}
@@ -16,8 +16,8 @@ returns c =
 median-requires : tie.Need-median-requires
 median-requires c κs = search needs
 
-lid-requires : tie.Need-lid-requires
-lid-requires c κs = search needs
+outlier-limit-requires : tie.Need-outlier-limit-requires
+outlier-limit-requires c κs = search needs
 
 joined-requires : tie.Need-joined-requires
 joined-requires c κs = search needs
@@ -30,7 +30,7 @@ returns-2 c =
     let n = c .before .before .before .before .before in
     let e = n .before .collect .ensures in
     sigma-is (n .before .before .before .args .bands) (n .before .collect .last .1 .0) (n .before .collect .result) (e .0) (e .1) (e .2) (n .if1 .left)
-    (c .before .before .before .median .ensures) (c .before .before .lid .ensures) (c .before .joined .ensures) (c .decide .ensures)
+    (c .before .before .before .median .ensures) (c .before .before .outlier-limit .ensures) (c .before .joined .ensures) (c .decide .ensures)
 
 pub join-spec : {M : Type 1} → statement M
 join-spec =
@@ -39,7 +39,7 @@ join-spec =
     collect-requires
     returns
     median-requires
-    lid-requires
+    outlier-limit-requires
     joined-requires
     decide-requires
     returns-2)

@@ -1,6 +1,7 @@
--- `joined` meets its contract. The total so far, and then the bands left, make the whole total. Assumes nothing.
+-- `joined` meets its contract. The total so far, and then the bands left, make the f64Of total. Assumes noTotal.
 use Prim.Native.Nat.{_-_}
 use native.Mathlib.Omega.{arith}
+use lib.Ieee.{ofBits}
 use lib.Ieee.{nan}
 use Rattle.rounds.specs.declared.Found.the-variants.{Variance}
 use Rattle.joining.proofs.Joins.{Joining, joining-start, joining-room, joining-more, joining-end}
@@ -8,12 +9,13 @@ use Rattle.joining.proofs.joined.Statement.{statement}
 use Rattle.joining.proofs.joined.Tie as tie
 
 abbrev Inv-loop : tie.InvT-loop
-Inv-loop most bands k₀ b₀ k b = Joining most bands k b
+Inv-loop limit bands k₀ b₀ k b = Joining limit bands k b
 
 abbrev μ-loop : tie.MeasureT-loop
-μ-loop most bands k₀ b₀ k b = 4 - b
+μ-loop limit bands k₀ b₀ k b = 4 - b
 
 loop-holds : tie.Need-loop-holds Inv-loop μ-loop
+unfolding ofBits
 loop-holds c = joining-start _ _
 
 mul-f : tie.Need-mul-f Inv-loop μ-loop

@@ -1,4 +1,5 @@
--- `median` meets its contract: the first n in rising order stand in the sorted array. Assumes nothing.
+-- `median` meets its contract: the first n in rising order stand in the sorted array. Assumes noTotal.
+use lib.Ieee.{ofBits, round}
 use borrow.Author.Needs.{needs}
 use denote.Ref.{now}
 use Rattle.joining.proofs.Joins.{median-odd, median-even}
@@ -29,6 +30,7 @@ array-read-low : tie.Need-array-read-low
 array-read-low c = search needs
 
 returns-2 : tie.Need-returns-2
+unfolding ofBits round
 returns-2 c =
     let s = c .before .before in
     median-even (now (s .args .vars)) (s .args .n) (s .pre .2) (s .pre .1) (c .before .sort .result) (c .before .sort .ensures) (c .if1 .left)

@@ -1,4 +1,4 @@
--- `noise_sigma` meets its contract. After b bands the first b answers stand in the array, and the rounds are the image's and theirs. Assumes nothing.
+-- `noise_sigma` meets its contract. After b bands the first b answers stand in the array, and the rounds are the image's and theirs. Assumes noTotal.
 use mathlib.Core.Path.{refl}
 use Prim.Native.Nat.{_+_, _-_}
 use native.Mathlib.Omega.{arith}

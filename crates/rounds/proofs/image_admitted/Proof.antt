@@ -1,6 +1,7 @@
 -- `image_admitted` meets its contract. After b bands sum and count are those of the first b. Assumes nothing.
 use Prim.Native.Nat.{_+_, _-_}
 use native.Mathlib.Omega.{arith}
+use lib.Ieee.{ofBits}
 use Rattle.rounds.proofs.Bands.{within, Joined, joined-start, joined-more, joined-few, joined-end}
 use Rattle.rounds.proofs.image_admitted.Statement.{statement}
 use Rattle.rounds.proofs.image_admitted.Tie as tie
@@ -12,6 +13,7 @@ abbrev μ-loop : tie.MeasureT-loop
 μ-loop gate op starts var sum₀ n₀ b₀ sum n b = 4 - b
 
 loop-holds : tie.Need-loop-holds Inv-loop μ-loop
+unfolding ofBits
 loop-holds c = joined-start _ _ _ _
 
 mul-a : tie.Need-mul-a Inv-loop μ-loop

@@ -1,65 +1,52 @@
--- `image_variance` meets its contract. What is left of the rounds, from the variance and the count at hand, ends as all of them do. Assumes nothing.
+-- `image_variance` meets its contract. What is left of the rounds, from those evaluated, ends as all of them do. Assumes nothing.
+use mathlib.Core.Path.{_∙_, ap}
 use Prim.Native.Nat.{_-_}
 use native.Mathlib.Omega.{arith}
-use denote.Ref.{now}
-use Rattle.rounds.specs.Rounds.{most, imageTotal}
+use Rattle.sums.specs.Start.{start}
+use Rattle.rounds.specs.Rounds.{maxRounds, startAt, imageTotal}
 use Rattle.rounds.proofs.Bands.{image-is}
-use Rattle.rounds.proofs.Turns.{Turning, turning-start, turning-none, turning-near, turning-more, turning-end, settle-is, under, used}
+use Rattle.rounds.proofs.Turns.{Turning, turning-start, turning-last, turning-counted, turning-more, turning-end, settle-is, under, used}
 use Rattle.rounds.proofs.image_variance.Statement.{statement}
 use Rattle.rounds.proofs.image_variance.Tie as tie
 
 abbrev Inv-loop : tie.InvT-loop
-Inv-loop gate op starts var₀ prev₀ rounds₀ var prev rounds = Turning most (imageTotal gate op starts) var₀ var prev rounds
+Inv-loop gate op starts s₀ s = Turning maxRounds (imageTotal gate op starts) (start gate op) s
 
 abbrev μ-loop : tie.MeasureT-loop
-μ-loop gate op starts var₀ prev₀ rounds₀ var prev rounds = 12 - rounds
+μ-loop gate op starts s₀ s = 12 - s .rounds
 
 start-requires : tie.Need-start-requires Inv-loop μ-loop
 start-requires c κs = c .before .before .pre .same
 
+start-at-requires : tie.Need-start-at-requires Inv-loop μ-loop
+start-at-requires c κs = tt
+
 loop-holds : tie.Need-loop-holds Inv-loop μ-loop
-loop-holds c = turning-start _ _ _
+loop-holds c = turning-start _ _ _ (c .start-at .ensures ∙ ap startAt (c .before .start .ensures))
 
 image-admitted-requires : tie.Need-image-admitted-requires Inv-loop μ-loop
-image-admitted-requires c κs = c .before .before .before .before .before .pre
+image-admitted-requires c κs = c .before .before .before .before .before .before .before .pre
 
-add-rounds : tie.Need-add-rounds Inv-loop μ-loop
-add-rounds c = omega arith
+one-round-requires : tie.Need-one-round-requires Inv-loop μ-loop
+one-round-requires c κs = c .before .if1 .taken
 
 returns : tie.Need-returns Inv-loop μ-loop
 returns c =
-    let n = c .before .before in
-    let a = n .before .before .before .before .before .args in
-    image-is (now (a .gate)) (now (a .op)) (now (a .starts)) (n .before .before .start .ensures)
-    (settle-is _ _ (turning-none (n .before .loop .inv) (under (n .loop-test .taken)) (c .before .image-admitted .ensures) (c .if1 .taken)))
-
-next-requires : tie.Need-next-requires Inv-loop μ-loop
-next-requires c κs = tt
-
-near-requires : tie.Need-near-requires Inv-loop μ-loop
-near-requires c κs = tt
-
-returns-2 : tie.Need-returns-2 Inv-loop μ-loop
-returns-2 c =
-    let n = c .before .before .before .before .before in
-    let a = n .before .before .before .before .before .args in
-    image-is (now (a .gate)) (now (a .op)) (now (a .starts)) (n .before .before .start .ensures)
-    (settle-is _ _ (turning-near (n .before .loop .inv) (under (n .loop-test .taken)) (c .before .before .before .before .image-admitted .ensures) (c .before .before .before .if1 .left)
-    (c .before .before .next .ensures) (c .before .near .ensures) (c .if2 .taken)))
+    let n = c .before .before .before in
+    image-is _ _ _ (settle-is _ _ (turning-last (n .before .before .before .loop .inv) (under (n .before .if1 .taken)) (n .image-admitted .ensures) (c .before .before .one-round .ensures) (c .before .if2 .taken)))
 
 loop-less : tie.Need-loop-less Inv-loop μ-loop
-loop-less c = omega arith
+loop-less c =
+    let n = c .before .before .before in
+    omega (arith, turning-counted (n .before .before .before .loop .inv) (under (n .before .if1 .taken)) (n .image-admitted .ensures) (c .before .before .one-round .ensures))
 
 loop-again : tie.Need-loop-again Inv-loop μ-loop
 loop-again c =
-    let n = c .before .before .before .before .before in
-    turning-more (n .before .loop .inv) (under (n .loop-test .taken)) (c .before .before .before .before .image-admitted .ensures) (c .before .before .before .if1 .left)
-    (c .before .before .next .ensures) (c .before .near .ensures) (c .if2 .left)
+    let n = c .before .before .before in
+    turning-more (n .before .before .before .loop .inv) (under (n .before .if1 .taken)) (n .image-admitted .ensures) (c .before .before .one-round .ensures) (c .before .if2 .left)
 
-returns-3 : tie.Need-returns-3 Inv-loop μ-loop
-returns-3 c =
-    let a = c .before .before .before .before .before .args in
-    image-is (now (a .gate)) (now (a .op)) (now (a .starts)) (c .before .before .start .ensures) (settle-is _ _ (turning-end (c .before .loop .inv) (used (c .loop-test .left))))
+returns-2 : tie.Need-returns-2 Inv-loop μ-loop
+returns-2 c = image-is _ _ _ (settle-is _ _ (turning-end (c .before .before .loop .inv) (used (c .if1 .left))))
 
 pub image-variance-spec : {M : Type 1} → statement M
 image-variance-spec =
@@ -68,13 +55,11 @@ image-variance-spec =
     Inv-loop
     μ-loop
     start-requires
+    start-at-requires
     loop-holds
     image-admitted-requires
-    add-rounds
+    one-round-requires
     returns
-    next-requires
-    near-requires
-    returns-2
     loop-less
     loop-again
-    returns-3)
+    returns-2)

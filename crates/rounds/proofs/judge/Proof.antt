@@ -1,4 +1,5 @@
 -- `judge` meets its contract, by the two tests. Assumes nothing.
+use lib.Ieee.{ofBits, ofInt, round}
 use borrow.Author.Needs.{needs}
 use Rattle.rounds.proofs.Bands.{judged-few, judged-high, judged-good}
 use Rattle.rounds.proofs.judge.Statement.{statement}
@@ -11,11 +12,13 @@ max64-requires : tie.Need-max64-requires
 max64-requires c κs = search needs
 
 returns-2 : tie.Need-returns-2
+unfolding ofBits ofInt round
 returns-2 c =
     let a = c .before .before .before .before .before .args in
     judged-high (a .s) (a .image-var) (c .before .before .before .if1 .left) (c .before .before .max64 .ensures) (c .if2 .taken)
 
 returns-3 : tie.Need-returns-3
+unfolding ofBits ofInt round
 returns-3 c =
     let a = c .before .before .before .before .before .args in
     judged-good (a .s) (a .image-var) (c .before .before .before .if1 .left) (c .before .before .max64 .ensures) (c .if2 .left)

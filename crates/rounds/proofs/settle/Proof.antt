@@ -1,54 +1,46 @@
--- `settle` meets its contract. What is left of the rounds, from the variance and the count at hand, ends as all of them do. Assumes nothing.
+-- `settle` meets its contract. What is left of the rounds, from those evaluated, ends as all of them do. Assumes nothing.
 use Prim.Native.Nat.{_-_}
 use native.Mathlib.Omega.{arith}
-use Rattle.rounds.specs.Rounds.{most, bandTotal}
-use Rattle.rounds.proofs.Turns.{Turning, turning-start, turning-none, turning-near, turning-more, turning-end, settle-is, under, used}
+use Rattle.rounds.specs.Rounds.{maxRounds, bandTotal}
+use Rattle.rounds.proofs.Turns.{Turning, turning-start, turning-last, turning-counted, turning-more, turning-end, settle-is, under, used}
 use Rattle.rounds.proofs.settle.Statement.{statement}
 use Rattle.rounds.proofs.settle.Tie as tie
 
 abbrev Inv-loop : tie.InvT-loop
-Inv-loop gate op start var₀ prev₀ r₀ var prev r = Turning most (bandTotal gate op) start var prev r
+Inv-loop gate op start s₀ s = Turning maxRounds (bandTotal gate op) start s
 
 abbrev μ-loop : tie.MeasureT-loop
-μ-loop gate op start var₀ prev₀ r₀ var prev r = 12 - r
+μ-loop gate op start s₀ s = 12 - s .rounds
+
+start-at-requires : tie.Need-start-at-requires Inv-loop μ-loop
+start-at-requires c κs = tt
 
 loop-holds : tie.Need-loop-holds Inv-loop μ-loop
-loop-holds c = turning-start _ _ _
+loop-holds c = turning-start _ _ _ (c .start-at .ensures)
 
 admitted-requires : tie.Need-admitted-requires Inv-loop μ-loop
-admitted-requires c κs = c .before .before .before .before .pre
+admitted-requires c κs = c .before .before .before .before .before .before .pre
 
-add-r : tie.Need-add-r Inv-loop μ-loop
-add-r c = omega arith
+one-round-requires : tie.Need-one-round-requires Inv-loop μ-loop
+one-round-requires c κs = c .before .if1 .taken
 
 returns : tie.Need-returns Inv-loop μ-loop
 returns c =
-    let n = c .before .before in
-    settle-is _ _ (turning-none (n .before .loop .inv) (under (n .loop-test .taken)) (c .before .admitted .ensures) (c .if1 .taken))
-
-next-requires : tie.Need-next-requires Inv-loop μ-loop
-next-requires c κs = tt
-
-near-requires : tie.Need-near-requires Inv-loop μ-loop
-near-requires c κs = tt
-
-returns-2 : tie.Need-returns-2 Inv-loop μ-loop
-returns-2 c =
-    let n = c .before .before .before .before .before in
-    settle-is _ _ (turning-near (n .before .loop .inv) (under (n .loop-test .taken)) (c .before .before .before .before .admitted .ensures) (c .before .before .before .if1 .left)
-    (c .before .before .next .ensures) (c .before .near .ensures) (c .if2 .taken))
+    let n = c .before .before .before in
+    settle-is _ _ (turning-last (n .before .before .before .loop .inv) (under (n .before .if1 .taken)) (n .admitted .ensures) (c .before .before .one-round .ensures) (c .before .if2 .taken))
 
 loop-less : tie.Need-loop-less Inv-loop μ-loop
-loop-less c = omega arith
+loop-less c =
+    let n = c .before .before .before in
+    omega (arith, turning-counted (n .before .before .before .loop .inv) (under (n .before .if1 .taken)) (n .admitted .ensures) (c .before .before .one-round .ensures))
 
 loop-again : tie.Need-loop-again Inv-loop μ-loop
 loop-again c =
-    let n = c .before .before .before .before .before in
-    turning-more (n .before .loop .inv) (under (n .loop-test .taken)) (c .before .before .before .before .admitted .ensures) (c .before .before .before .if1 .left)
-    (c .before .before .next .ensures) (c .before .near .ensures) (c .if2 .left)
+    let n = c .before .before .before in
+    turning-more (n .before .before .before .loop .inv) (under (n .before .if1 .taken)) (n .admitted .ensures) (c .before .before .one-round .ensures) (c .before .if2 .left)
 
-returns-3 : tie.Need-returns-3 Inv-loop μ-loop
-returns-3 c = settle-is _ _ (turning-end (c .before .loop .inv) (used (c .loop-test .left)))
+returns-2 : tie.Need-returns-2 Inv-loop μ-loop
+returns-2 c = settle-is _ _ (turning-end (c .before .before .loop .inv) (used (c .if1 .left)))
 
 pub settle-spec : {M : Type 1} → statement M
 settle-spec =
@@ -56,13 +48,11 @@ settle-spec =
     (tie.spec
     Inv-loop
     μ-loop
+    start-at-requires
     loop-holds
     admitted-requires
-    add-r
+    one-round-requires
     returns
-    next-requires
-    near-requires
-    returns-2
     loop-less
     loop-again
-    returns-3)
+    returns-2)

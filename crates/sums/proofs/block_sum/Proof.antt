@@ -1,6 +1,7 @@
 -- `block_sum` meets its contract. After k windows the sum is that of the first k. Assumes nothing.
 use Prim.Native.Nat.{_-_}
 use native.Mathlib.Omega.{arith}
+use lib.Ieee.{ofBits}
 use Rattle.sums.proofs.Sums.{Summed, summed-start, summed-more, summed-end}
 use Rattle.sums.proofs.block_sum.Statement.{statement}
 use Rattle.sums.proofs.block_sum.Tie as tie
@@ -12,6 +13,7 @@ abbrev μ-loop : tie.MeasureT-loop
 μ-loop gate op a m t c sum₀ k₀ sum k = m - k
 
 loop-holds : tie.Need-loop-holds Inv-loop μ-loop
+unfolding ofBits
 loop-holds c = summed-start _ _ _ _ _ _
 
 add-g : tie.Need-add-g Inv-loop μ-loop

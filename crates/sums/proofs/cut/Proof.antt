@@ -1,6 +1,6 @@
 -- `cut` meets its contract: it is its definition, operation by operation. Assumes nothing.
 use mathlib.Core.Path.{_∙_, ap}
-use lib.Ieee.{Float, binary32, binary64, mul}
+use lib.Ieee.{Float, binary32, binary64, mul, ofBits, ofInt, round}
 use borrow.Author.Needs.{needs}
 use Rattle.ieee.specs.Convert.{convert}
 use Rattle.sums.specs.Numbers.{trunc}
@@ -15,7 +15,7 @@ to-f32-requires : tie.Need-to-f32-requires
 to-f32-requires c κs = search needs
 
 returns : tie.Need-returns
-unfolding cut
+unfolding cut ofBits ofInt round
 returns c = c .to-f32 .ensures ∙ ap (λ (x : Float). convert binary32 (mul binary64 (mul binary64 trunc trunc) x)) (c .before .max64 .ensures)
 
 pub cut-spec : {M : Type 1} → statement M

@@ -1,6 +1,7 @@
 -- `mean_quiet` meets its contract. After k windows sum and count are those of the quiet ones among the first k. Assumes nothing.
 use Prim.Native.Nat.{_-_}
 use native.Mathlib.Omega.{arith}
+use lib.Ieee.{ofBits}
 use lib.ListN.{length}
 use Rattle.sums.proofs.Starts.{Quiet, quiet-start, quiet-few, quiet-more, quiet-end}
 use Rattle.sums.proofs.mean_quiet.Statement.{statement}
@@ -13,6 +14,7 @@ abbrev μ-loop : tie.MeasureT-loop
 μ-loop op gate quiet sum₀ n₀ k₀ sum n k = length gate - k
 
 loop-holds : tie.Need-loop-holds Inv-loop μ-loop
+unfolding ofBits
 loop-holds c = quiet-start _ _ _
 
 mul-g : tie.Need-mul-g Inv-loop μ-loop

@@ -1,9 +1,10 @@
 -- `side_by_side` meets its contract. After j turns sum and count are those of the first j times eight blocks. Assumes nothing.
 use mathlib.Core.Path.{refl}
 use Prim.Native.Nat.{_-_}
+use lib.Ieee.{ofBits}
 use native.Mathlib.Omega.{arith}
 use Rattle.sums.proofs.Sums.{added-few}
-use Rattle.sums.proofs.Eights.{Eights, eights-start, eights-more, eights-end, lanes-start, lanes-whole}
+use Rattle.sums.proofs.Eights.{Eights, eights-start, eights-more, eights-end, lanes-start, counts-fit}
 use Rattle.sums.proofs.side_by_side.Statement.{statement}
 use Rattle.sums.proofs.side_by_side.Tie as tie
 
@@ -14,6 +15,7 @@ abbrev μ-loop : tie.MeasureT-loop
 μ-loop gate op m t c k₀ j₀ k j = m - j
 
 loop-holds : tie.Need-loop-holds Inv-loop μ-loop
+unfolding ofBits
 loop-holds c = eights-start _ _ _ _ _
 
 mul-a : tie.Need-mul-a Inv-loop μ-loop
@@ -23,10 +25,11 @@ mul-a-2 : tie.Need-mul-a-2 Inv-loop μ-loop
 mul-a-2 c = omega arith
 
 lanes-requires : tie.Need-lanes-requires Inv-loop μ-loop
+unfolding ofBits
 lanes-requires c κs = (omega arith, omega arith, lanes-start _ _ _ _ _)
 
 add-lanes-requires : tie.Need-add-lanes-requires Inv-loop μ-loop
-add-lanes-requires c κs = (omega (arith, added-few (c .before .before .before .before .before .before .loop .inv .added)), lanes-whole (c .before .before .lanes .ensures))
+add-lanes-requires c κs = (omega (arith, added-few (c .before .before .before .before .before .before .loop .inv .added)), counts-fit (c .before .before .lanes .ensures))
 
 add-j : tie.Need-add-j Inv-loop μ-loop
 add-j c = omega arith

@@ -1,4 +1,5 @@
 -- The sigma of the case that `noise_sigma` ensures. Assumes nothing.
+use lib.Ieee.{ofBits}
 use borrow.Author.Needs.{needs}
 use mathlib.Core.Path.{sym, ap, _∙_}
 use Rattle.joining.specs.declared.Noise.{Noise}
@@ -20,6 +21,7 @@ returns : tie.Need-returns
 returns c = ap figureOf (sym (c .before .s .given .1)) ∙ ap (λ (n : Noise). figureOf (n .sigma)) (c .before .before .before .noise-sigma .ensures)
 
 returns-2 : tie.Need-returns-2
+unfolding ofBits
 returns-2 c = ap figureOf (sym (c .enum-told .given .1)) ∙ ap (λ (n : Noise). figureOf (n .sigma)) (c .before .before .noise-sigma .ensures)
 
 pub vuzgari-compare-noise-sigma-spec : {M : Type 1} → statement M
