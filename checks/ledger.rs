@@ -2,7 +2,7 @@
 //! head how its rows and its lists of functions are read.
 
 use std::{
-    collections::{BTreeMap, BTreeSet},
+    collections::BTreeSet,
     fs,
     path::Path,
     process::exit,
@@ -18,8 +18,8 @@ struct Ledger {
     names: usize,
     /// Edits that a row names, as crate/edit.
     edits: BTreeSet<String>,
-    /// Public functions that a list names, and the line.
-    functions: BTreeMap<String, (usize, bool)>,
+    /// Public functions that a list names.
+    functions: BTreeSet<String>,
 }
 
 impl Ledger {
@@ -146,13 +146,15 @@ fn topics() -> Vec<String> {
     text.split("Topic { name: \"").skip(1).filter_map(|rest| rest.split('"').next()).map(str::to_string).collect()
 }
 
-/// The place that a part of a cell names: `crate`, `crate File`, `File`, files parted by commas, a colon after them.
-fn place<'a>(head: &'a str, crates: &[String]) -> Option<(Option<&'a str>, Vec<&'a str>)> {
+/// The place that a part of a cell names: `crate`, `crate File`, `File`, files parted by commas, a colon after them. Files are in the
+/// folder given, or in specs where that word stands before them.
+fn place<'a>(head: &'a str, folder: &'a str, crates: &[String]) -> Option<(Option<&'a str>, &'a str, Vec<&'a str>)> {
     let words: Vec<&str> = head.trim_end_matches(':').split([' ', ',']).filter(|word| !word.is_empty()).collect();
     let named = words.first().copied().filter(|word| *word == "kit" || crates.iter().any(|name| name == word));
-    let files = words[usize::from(named.is_some())..].to_vec();
+    let mut files = words[usize::from(named.is_some())..].to_vec();
+    let folder = if files.first() == Some(&"specs") { files.remove(0) } else { folder };
     let fits = files.iter().all(|file| file.starts_with(char::is_uppercase) && file.chars().all(char::is_alphanumeric));
-    fits.then_some((named, files))
+    fits.then_some((named, folder, files))
 }
 
 fn row(ledger: &mut Ledger, at: usize, line: &str, crates: &[String], topics: &[String]) {
@@ -163,11 +165,12 @@ fn row(ledger: &mut Ledger, at: usize, line: &str, crates: &[String], topics: &[
     ledger.rows += 1;
     let mut owner = String::new();
     for (kind, cell) in [("definition", definition), ("law or contract", contract), ("edit", edit)] {
+        let folder = if kind == "definition" { "specs" } else { "proofs" };
         let mut files: Vec<String> = vec![];
         for part in plain(cell).split(';').map(str::trim).filter(|part| !part.is_empty()) {
             let (head, names) = marked(part);
-            let Some((named, found)) = place(&head, crates) else {
-                if kind != "edit" || !names.is_empty() {
+            let Some((named, folder, found)) = place(&head, folder, crates) else {
+                if kind != "edit" || names.iter().any(|name| !name.contains('/') || !Path::new(name).exists()) {
                     ledger.fault(at, &format!("{kind}: {head:?} names no place"));
                 }
                 continue;
@@ -184,7 +187,6 @@ fn row(ledger: &mut Ledger, at: usize, line: &str, crates: &[String], topics: &[
                 ledger.fault(at, &format!("{kind}: {part:?} names no crate"));
                 continue;
             }
-            let folder = if kind == "definition" { "specs" } else { "proofs" };
             let paths: Vec<String> = files.iter().map(|file| format!("crates/{owner}/{folder}/{file}.antt")).collect();
             if kind != "edit" {
                 for path in paths.iter().filter(|path| !Path::new(path).is_file()) {
@@ -200,7 +202,8 @@ fn row(ledger: &mut Ledger, at: usize, line: &str, crates: &[String], topics: &[
                     }
                     ledger.edits.insert(format!("{owner}/{name}"));
                 } else if files.is_empty() {
-                    let found = functions(&owner).into_iter().find(|f| f.name == name);
+                    let method = format!("::{name}");
+                    let found = functions(&owner).into_iter().find(|f| f.name == name || f.name.ends_with(&method));
                     if kind == "definition" || !found.is_some_and(|f| f.ensures) {
                         ledger.fault(at, &format!("{kind} `{name}`: no function with that contract in crates/{owner}/src"));
                     }
@@ -223,14 +226,19 @@ fn row(ledger: &mut Ledger, at: usize, line: &str, crates: &[String], topics: &[
     }
 }
 
-/// A line of the two lists of functions: `- crate: names`, those that require nothing in the first list.
+/// A line of the two lists of functions: `- crate: names`, those that require nothing in the first list; `- crate: every export` in
+/// the second stands for all of a crate's.
 fn listed(ledger: &mut Ledger, at: usize, line: &str, entries: bool, crates: &[String]) {
     let (head, names) = marked(&plain(line.trim_start_matches("- ")));
-    let owner = head.trim_end_matches(':');
+    let (owner, rest) = head.split_once(':').unwrap_or((&head, ""));
     if !crates.iter().any(|name| name == owner) {
         return ledger.fault(at, &format!("{owner:?} is no crate"));
     }
     let all = functions(owner);
+    if rest.trim() == "every export" && !entries {
+        let names = all.iter().filter(|f| f.public).map(|f| format!("{owner}::{}", f.name));
+        return ledger.functions.extend(names);
+    }
     for name in names {
         ledger.names += 1;
         let full = format!("{owner}::{name}");
@@ -240,7 +248,7 @@ fn listed(ledger: &mut Ledger, at: usize, line: &str, entries: bool, crates: &[S
             Some(f) if !f.requires && !entries => ledger.fault(at, &format!("`{full}` requires nothing: it is an entry")),
             _ => {}
         }
-        if ledger.functions.insert(full.clone(), (at, entries)).is_some() {
+        if !ledger.functions.insert(full.clone()) {
             ledger.fault(at, &format!("`{full}` is listed twice"));
         }
     }
@@ -293,7 +301,7 @@ fn main() {
         }
         for f in functions(name).into_iter().filter(|f| f.public) {
             let full = format!("{name}::{}", f.name);
-            if !ledger.functions.contains_key(&full) {
+            if !ledger.functions.contains(&full) {
                 ledger.faults.push(format!("{CLAIMS}: the public function {full} is in neither list"));
             }
             if name == "vuzgari" && f.requires {
