@@ -210,7 +210,7 @@ fn row(ledger: &mut Ledger, at: usize, line: &str, crates: &[String], topics: &[
                     if kind == "definition" || !found.is_some_and(|f| f.ensures) {
                         ledger.fault(at, &format!("{kind} `{name}`: no function with that contract in crates/{owner}/src"));
                     }
-                } else if !paths.iter().any(|path| defines(&read(path).unwrap_or_default(), &name, true)) {
+                } else if !paths.iter().any(|path| defines(&read(path).unwrap_or_default(), &name, kind == "definition")) {
                     ledger.fault(at, &format!("{kind} `{name}`: not in {}", paths.join(", ")));
                 }
             }
@@ -264,7 +264,8 @@ fn dependencies(ledger: &mut Ledger) {
         let Some((name, rest)) = line.split('#').next().unwrap_or("").split_once(':') else { continue };
         let code = sources(&format!("crates/{name}/src"), ".rt");
         let logic = sources(&format!("crates/{name}/specs"), ".antt") + &sources(&format!("crates/{name}/proofs"), ".antt");
-        for other in rest.split_whitespace() {
+        // io stands on libc, and both are listed where io is used
+        for other in rest.split_whitespace().filter(|other| *other != "libc") {
             let word = |text: &str, mark: &str| {
                 text.match_indices(mark).any(|(at, _)| !text[..at].ends_with(|c: char| c.is_alphanumeric() || c == '_' || c == ':'))
             };
