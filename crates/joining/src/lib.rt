@@ -43,14 +43,13 @@ pub fn noise_sigma(gate: &[f32], op: &[f32], starts: &[usize; 5]) -> Noise
         };
     }
     let image = rounds::image_variance(gate, op, starts);
-    let image_var = image.var;
     let mut bands = [Found::Missing; 4];
     let mut rounds = image.rounds;
     let mut b: usize = 0;
     while b < rounds::BANDS {
         let a = starts[b];
         let e = starts[b + 1];
-        let v = band_variance(gate, op, a, e, image_var);
+        let v = band_variance(gate, op, a, e, image.var);
         let f = v.found;
         bands[b] = f;
         rounds = rounds + v.rounds;
