@@ -80,7 +80,7 @@ module _ {g o : List Float} {starts : List ℕ} (image : Settled) (e : image ≡
         count = omega (arith, G .count, ap (λ (x : BandVariance). x .rounds) q, ap (bandRounds g o starts (image .var)) (add-one b));
       }
 
-  pub gathered-bands : 4 ≤ b → bands ≡ founds g o starts (image .var)
+  gathered-bands : 4 ≤ b → bands ≡ founds g o starts (image .var)
   gathered-bands h = tab-end (G .tab) h
 
   pub gathered-join : Bands g o starts → 4 ≤ b → (length bands ≡ 4) × (windowsIn bands ≤ length g)

@@ -97,7 +97,8 @@ noiseUnder g o starts image =
     record { sigma = sigmaOf (founds g o starts (image .var)); rounds = image .rounds + bandRounds g o starts (image .var) 4 }
 
 unfoldable pub noise : List Float → List Float → List ℕ → Noise
-noise g o starts = cond (ltb (length g) minSamples) (record { sigma = Number 5; rounds = 0 }) (noiseUnder g o starts (imageVariance g o starts))
+noise g o starts =
+    cond (ltb (length g) minSamples) (record { sigma = Number 5; rounds = 0 }) (noiseUnder g o starts (imageVariance g o starts))
 
 -- ---- document 01's number, and its sigma: zero unless the number is 0
 
