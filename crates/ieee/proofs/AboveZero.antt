@@ -13,7 +13,8 @@ use lib.Ieee.Bits.{ofBits-toBits}
 use borrow.Author.Tests.{ltb-true}
 use Rattle.ieee.specs.Order.{negative}
 use Rattle.ieee.specs.Sqrt.{sqrt}
-use Rattle.ieee.proofs.Tests.{yes, nan-is, zero-float, zero-is, zero-over-zero}
+use Rattle.ieee.specs.Numbers.{plusZero}
+use Rattle.ieee.proofs.Tests.{yes, nan-is, zero-is, zero-over-zero}
 use Rattle.ieee.proofs.Reading.{in-size, sign-test}
 
 abbrev pub above : Float → Bool
@@ -29,16 +30,16 @@ nothing e = mul-one (zero * up e) ∙ zero-mul (up e)
 something : (m : ℕ) (e : ℤ) → 0 < suc m * up e * 1
 something m e = rw (mul-one (suc m * up e)) (mul-pos (zero-lt-suc m) (up-pos e))
 
-eq-zero : (s : Bool) (e : ℤ) → eq (fin s zero e) zero-float ≡ true
+eq-zero : (s : Bool) (e : ℤ) → eq (fin s zero e) plusZero ≡ true
 unfolding eq
 eq-zero true e = rw (nothing e, zero-mul (down e))
 eq-zero false e = rw (nothing e, zero-mul (down e))
 
-lt-zero : (m : ℕ) (e : ℤ) → T (lt (fin true (suc m) e) zero-float)
+lt-zero : (m : ℕ) (e : ℤ) → T (lt (fin true (suc m) e) plusZero)
 unfolding lt
 lt-zero m e = lt→ltb 0 (suc m * up e * 1 + 0 * down e) (omega (arith, something m e))
 
-above-at : (x : Float) → ne x x ≡ false → eq x zero-float ≡ false → lt x zero-float ≡ false → T (above x)
+above-at : (x : Float) → ne x x ≡ false → eq x plusZero ≡ false → lt x plusZero ≡ false → T (above x)
 unfolding ne lt
 above-at nan a b c = absurd (true≢false a)
 above-at (inf true) a b c = absurd (true≢false c)
@@ -60,7 +61,7 @@ not-zero m e b h =
     let z : suc m * up e * 1 ≡ 0 = eqb→eq (suc m * up e * 1) (0 * down e) (and-l (eqb (suc m * up e * 1) (0 * down e)) b (yes h)) ∙ zero-mul (down e) in
     omega (arith, something m e)
 
-zero-at : (f : Format) (x : Float) → eq x zero-float ≡ true → x ≡ sqrt f x
+zero-at : (f : Format) (x : Float) → eq x plusZero ≡ true → x ≡ sqrt f x
 unfolding eq sqrt
 zero-at f nan h = refl
 zero-at f (inf s) h = absurd (false≢true h)
@@ -70,7 +71,7 @@ zero-at f (fin s (suc m) e) h = absurd (not-zero m e _ h)
 pub sqrt-zero : (f : Format) (x : Float) → eq x (ofBits f 0) ≡ true → x ≡ sqrt f x
 sqrt-zero f x h = zero-at f x (rw (zero-is f) at h)
 
-below-at : (f : Format) (x : Float) → lt x zero-float ≡ true → nan ≡ sqrt f x
+below-at : (f : Format) (x : Float) → lt x plusZero ≡ true → nan ≡ sqrt f x
 unfolding lt sqrt
 below-at f nan h = refl
 below-at f (inf true) h = refl
@@ -104,7 +105,7 @@ above-plus (fin s zero e) A = absurd A
 above-plus (fin true (suc m) e) A = absurd A
 above-plus (fin false (suc m) e) A = refl
 
-pub above-low : (f : Format) (x : Float) → T (fits f x) → T (above x) → toBits f x < top f
+above-low : (f : Format) (x : Float) → T (fits f x) → T (above x) → toBits f x < top f
 above-low f x F A = ltb-true (toBits f x) (top f) (sign-test f x F (above-plain x A) ∙ ap not (above-plus x A))
 
 inf-is : ofBits binary64 0x7ff0_0000_0000_0000 ≡ inf false

@@ -6,7 +6,7 @@ use lib.Dec.{T, ltb, leb}
 use lib.Ieee.{Float, nan, inf, fin, Format, binary32, top, toBits, fits, isNan, ne, eq, lt, neg, div, ofBits}
 use borrow.Author.Tests.{lt-ltb, le-ltb, lt-leb, not-false, not-true}
 use Rattle.ieee.specs.Order.{larger, smaller, magnitude, finite, negative, totalLess}
-use Rattle.ieee.proofs.Tests.{nan-is, is-nan, is-plain, left-plain, right-plain, one-over-zero}
+use Rattle.ieee.proofs.Tests.{nan-is, is-nan, is-plain, no-nan, left-plain, right-plain, one-over-zero}
 use Rattle.ieee.proofs.Reading.{sign-test}
 use Rattle.ieee.proofs.Classes.{magnitude-same, magnitude-turned}
 
@@ -38,10 +38,10 @@ module _ (a b : Float) where
 
 -- ---- the sign's bit
 module _ (f : Format) (x : Float) (F : T (fits f x)) (N : T (not (isNan x))) where
-  pub sign-set : top f ≤ toBits f x → negative x ≡ true
+  sign-set : top f ≤ toBits f x → negative x ≡ true
   sign-set h = not-false (negative x) (sym (sign-test f x F N) ∙ le-ltb (toBits f x) (top f) h)
 
-  pub sign-clear : toBits f x < top f → negative x ≡ false
+  sign-clear : toBits f x < top f → negative x ≡ false
   sign-clear h = not-true (negative x) (sym (sign-test f x F N) ∙ lt-ltb (toBits f x) (top f) h)
 
   -- ---- abs
@@ -102,11 +102,11 @@ module _ (a b : Float) where
         more h = rw (is-plain a A, is-plain b B, L, h)
 
         -- equal: by the signs
-        module _ (E : eq a b ≡ true) (f : Format) (P : T (not (isNan a))) (Q : T (not (isNan b))) (F : T (fits f a)) (G : T (fits f b)) where
+        module _ (E : eq a b ≡ true) (f : Format) (F : T (fits f a)) (G : T (fits f b)) where
           pub minus-first : top f ≤ toBits f a → ltb (toBits f b) (top f) ≡ totalLess a b
           unfolding totalLess
-          minus-first h = rw (is-plain a A, is-plain b B, L, E, sign-set f a F P h) (sign-test f b G Q)
+          minus-first h = rw (is-plain a A, is-plain b B, L, E, sign-set f a F (no-nan a A) h) (sign-test f b G (no-nan b B))
 
           pub plus-first : toBits f a < top f → leb (top f) (toBits f a) ≡ totalLess a b
           unfolding totalLess
-          plus-first h = rw (is-plain a A, is-plain b B, L, E, sign-clear f a F P h) (lt-leb (top f) (toBits f a) h)
+          plus-first h = rw (is-plain a A, is-plain b B, L, E, sign-clear f a F (no-nan a A) h) (lt-leb (top f) (toBits f a) h)

@@ -19,7 +19,7 @@ use Rattle.ieee.proofs.Bounded.{Bounded, HoldsWhole}
 use Rattle.ieee.proofs.BoundedRounding.{rounded-bounded}
 
 module _ (f : Format) (n : ℕ) (H : HoldsWhole f n) where
-  pub round-bounded : (s : Bool) (num den : ℕ) → 0 < den → num ≤ n * den → Bounded (round f s num den) s n
+  round-bounded : (s : Bool) (num den : ℕ) → 0 < den → num ≤ n * den → Bounded (round f s num den) s n
   round-bounded s num den D h =
       rounded-bounded f s (fraction num den) D (round f s num den) (round-rounds f num den D s) n H (le-trans (le-of-eq (mul-one num)) h)
 

@@ -59,7 +59,7 @@ module _ (p a b : ℕ) (P : 0 < p) (h : a ≤ b) where
       go : (h x y t k l : ℕ) → x < t → h ≤ y → t ≡ h * 2 → suc k * h ≤ l * h → 0 + k * h + x ≤ 0 + l * h + y
       go h x y t k l a b c d = omega arith
 
-  pub pattern-mono : pattern p a ≤ pattern p b
+  pattern-mono : pattern p a ≤ pattern p b
   pattern-mono = elim (eq-or-lt-of-le fewer) [ inl e ↦ same-drop e | inr g ↦ less-drop g ]
 
 -- ---- a float of the format, bounded by n

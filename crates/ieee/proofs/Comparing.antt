@@ -1,4 +1,4 @@
--- Two finite floats of the sizes a / d and b / d compare as a and b do, with their signs (`lt-is`, `eq-is`).
+-- Two finite floats of the sizes a / d and b / d compare as a and b do, with their signs (`lt-is`, `eq-is`, `le-is`).
 use mathlib.Core.Path.{_≡_, refl, sym, ap, _∙_}
 use mathlib.Core.Logic.{inl, inr}
 use mathlib.Core.Bool.{Bool, true, false, _&&_, _||_, Bool·beq}

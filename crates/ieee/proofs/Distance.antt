@@ -20,14 +20,14 @@ Middle X d R Y = (R < Y → AtMost X (R + Y) (d * 2)) × (Y < R → AtLeast X (R
 
 -- ---- distances at another denominator
 module _ (X : Exact) (n t d c : ℕ) where
-  pub within-scale : (b : Bool) → Within b X n t d → Within b X (n * c) (t * c) (d * c)
+  within-scale : (b : Bool) → Within b X n t d → Within b X (n * c) (t * c) (d * c)
   within-scale true w = (
     subst (λ (x : ℕ). AtLeast X x (d * c)) (sub-mul n t c) (least-scale (n - t) d c X (w .0)),
     subst (λ (x : ℕ). AtMost X x (d * c)) (add-mul n t c) (most-scale (n + t) d c X (w .1)),
   )
   within-scale false w = (mul-le-mul-right c (w .0), subst (λ (x : ℕ). AtMost X x (d * c)) (sub-mul t n c) (most-scale (t - n) d c X (w .1)))
 
-  pub within-unscale : 0 < c → (b : Bool) → Within b X (n * c) (t * c) (d * c) → Within b X n t d
+  within-unscale : 0 < c → (b : Bool) → Within b X (n * c) (t * c) (d * c) → Within b X n t d
   within-unscale C true w = (
     least-unscale (n - t) d c C X (subst (λ (x : ℕ). AtLeast X x (d * c)) (sym (sub-mul n t c)) (w .0)),
     most-unscale (n + t) d c C X (subst (λ (x : ℕ). AtMost X x (d * c)) (sym (add-mul n t c)) (w .1)),

@@ -18,7 +18,7 @@ use Rattle.ieee.specs.Floor.{cut, floor}
 use Rattle.ieee.proofs.Tests.{nan-is}
 use Rattle.ieee.proofs.Values.{value-neg, rescale}
 use Rattle.ieee.proofs.Units.{round-neg}
-use Rattle.ieee.proofs.Reading.{read-low, read-high, ofBits-neg, in-size}
+use Rattle.ieee.proofs.Reading.{read-low, read-high, below-top, digits-few, ofBits-neg, in-size}
 use Rattle.ieee.proofs.Cuts.{cut-same, cut-le}
 
 -- ---- `floor` sees only the value
@@ -78,26 +78,20 @@ module _ (x : Float) (F : T (fits binary32 x)) (s : Bool) (a : ℕ) (A : a ≤ 0
   abbrev digits : ℕ
   digits = 2 ^ 23 + a % 2 ^ 23
 
-  in-range : a < 2 ^ 31
-  in-range = omega arith
-
-  digits-lt : digits < 2 ^ 24
-  digits-lt = omega arith
-
   -- 0, and from 2 ^ 23 on
   pub floor-zero : a ≡ 0 → x ≡ floor binary32 x
   floor-zero z =
       floor-whole binary32 x s 0 0 0 F
-      (rescale x s (a % 2 ^ 23 * 2 ^ 0) (2 ^ 149) 0 1 (pow-pos 149) (none (2 ^ 149) (a % 2 ^ 23) (omega arith)) (S .0 (a % 2 ^ 23 * 2 ^ 0) (2 ^ 149) (read-low binary32 a in-range (omega arith))))
+      (rescale x s (a % 2 ^ 23 * 2 ^ 0) (2 ^ 149) 0 1 (pow-pos 149) (none (2 ^ 149) (a % 2 ^ 23) (omega arith)) (S .0 (a % 2 ^ 23 * 2 ^ 0) (2 ^ 149) (read-low binary32 a (below-top binary32 a A) (omega arith))))
       refl (lit< tt) (lit< tt)
     where
       none : (l t : ℕ) → t ≡ 0 → 0 * l ≡ t * 2 ^ 0 * 1
       none l t z = zero-mul l ∙ sym (ap (λ (y : ℕ). y * 2 ^ 0 * 1) z)
 
   high : 0 < field → field < 255 → HasValue x s (digits * 2 ^ (field - 1)) (2 ^ 149)
-  high lo hi = S .0 (digits * 2 ^ (field - 1)) (2 ^ 149) (read-high binary32 a in-range (field - 1) (omega arith) (omega arith))
+  high lo hi = S .0 (digits * 2 ^ (field - 1)) (2 ^ 149) (read-high binary32 a (below-top binary32 a A) (field - 1) (omega arith) (omega arith))
 
-  pub floor-large : 150 ≤ field → x ≡ floor binary32 x
+  floor-large : 150 ≤ field → x ≡ floor binary32 x
   floor-large h = go (eq-or-lt-of-le A)
     where
       go : (a ≡ 0x7f80_0000) ⊎ (a < 0x7f80_0000) → x ≡ floor binary32 x
@@ -107,17 +101,17 @@ module _ (x : Float) (F : T (fits binary32 x)) (s : Bool) (a : ℕ) (A : a ≤ 0
           let w : digits * 2 ^ (field - 150) * 2 ^ 149 ≡ digits * 2 ^ (field - 1) = mul-assoc digits (2 ^ (field - 150)) (2 ^ 149) ∙ ap (λ (y : ℕ). digits * y) (sym (pow-add 2 (field - 150) 149) ∙ ap (λ (y : ℕ). 2 ^ y) (sym j)) in
           floor-whole binary32 x s digits (field - 1) (digits * 2 ^ (field - 150)) F
           (rescale x s (digits * 2 ^ (field - 1)) (2 ^ 149) (digits * 2 ^ (field - 150)) 1 (pow-pos 149) (w ∙ sym (mul-one (digits * 2 ^ (field - 1)))) (high (omega arith) (omega arith)))
-          w digits-lt (lt-of-lt-of-le (shl-lt 24 (field - 1) digits-lt) (pow-mono {j = 277} (omega arith)))
+          w (digits-few binary32 a) (lt-of-lt-of-le (shl-lt 24 (field - 1) (digits-few binary32 a)) (pow-mono {j = 277} (omega arith)))
 
   -- 1 / 2 and up
-  pub floor-mid : 126 ≤ field → field < 150 → floor binary32 x ≡ round binary32 s (cut s digits (2 ^ (150 - field))) 1
+  floor-mid : 126 ≤ field → field < 150 → floor binary32 x ≡ round binary32 s (cut s digits (2 ^ (150 - field))) 1
   floor-mid lo hi =
       let j : field - 1 + (150 - field) ≡ 149 = omega arith in
       floor-value binary32 x s digits (2 ^ (150 - field)) (pow-pos (150 - field))
       (rescale x s (digits * 2 ^ (field - 1)) (2 ^ 149) digits (2 ^ (150 - field)) (pow-pos 149) (sym (mul-assoc digits (2 ^ (field - 1)) (2 ^ (150 - field)) ∙ ap (λ (y : ℕ). digits * y) (sym (pow-add 2 (field - 1) (150 - field)) ∙ ap (λ (y : ℕ). 2 ^ y) j))) (high (omega arith) (omega arith)))
 
   -- below 1 / 2, and not 0
-  pub floor-small : field < 126 → 0 < a → floor binary32 x ≡ round binary32 s (cut s digits (2 ^ 24)) 1
+  floor-small : field < 126 → 0 < a → floor binary32 x ≡ round binary32 s (cut s digits (2 ^ 24)) 1
   floor-small h p = go (eq-zero-or-pos field)
     where
       one : (s : Bool) (n c : ℕ) → 0 < n → n < c → cut s n c ≡ cond s 1 0
@@ -131,16 +125,16 @@ module _ (x : Float) (F : T (fits binary32 x)) (s : Bool) (a : ℕ) (A : a ≤ 0
       one false n c P h = ap (λ (y : ℕ). y / c) (add-zero n) ∙ div-eq-of-lt h
 
       both : (n : ℕ) → 0 < n → n < 2 ^ 149 → HasValue x s n (2 ^ 149) → floor binary32 x ≡ round binary32 s (cut s digits (2 ^ 24)) 1
-      both n P h v = floor-value binary32 x s n (2 ^ 149) (pow-pos 149) v ∙ ap (λ (y : ℕ). round binary32 s y 1) (one s n (2 ^ 149) P h ∙ sym (one s digits (2 ^ 24) (omega arith) digits-lt))
+      both n P h v = floor-value binary32 x s n (2 ^ 149) (pow-pos 149) v ∙ ap (λ (y : ℕ). round binary32 s y 1) (one s n (2 ^ 149) P h ∙ sym (one s digits (2 ^ 24) (omega arith) (digits-few binary32 a)))
 
       go : (field ≡ 0) ⊎ (0 < field) → floor binary32 x ≡ round binary32 s (cut s digits (2 ^ 24)) 1
-      go (inl z) = both (a % 2 ^ 23 * 2 ^ 0) (omega arith) (shl-lt 149 0 (lt-of-lt-of-le {m = 2 ^ 23} (omega arith) (pow-mono {i = 23} {j = 149} (lit≤ tt)))) (S .0 (a % 2 ^ 23 * 2 ^ 0) (2 ^ 149) (read-low binary32 a in-range z))
-      go (inr q) = both (digits * 2 ^ (field - 1)) (mul-pos (omega arith) (pow-pos (field - 1))) (lt-of-lt-of-le (shl-lt 24 (field - 1) digits-lt) (pow-mono {j = 149} (omega arith))) (high q (omega arith))
+      go (inl z) = both (a % 2 ^ 23 * 2 ^ 0) (omega arith) (shl-lt 149 0 (lt-of-lt-of-le {m = 2 ^ 23} (omega arith) (pow-mono {i = 23} {j = 149} (lit≤ tt)))) (S .0 (a % 2 ^ 23 * 2 ^ 0) (2 ^ 149) (read-low binary32 a (below-top binary32 a A) z))
+      go (inr q) = both (digits * 2 ^ (field - 1)) (mul-pos (omega arith) (pow-pos (field - 1))) (lt-of-lt-of-le (shl-lt 24 (field - 1) (digits-few binary32 a)) (pow-mono {j = 149} (omega arith))) (high q (omega arith))
 
   -- ---- the cast: at most 2 ^ 24
   cast : (n : ℕ) → n ≤ digits → T (inFloat binary32 (pos n))
   unfolding inFloat
-  cast n h = le→leb n (2 ^ 24) (le-trans h (le-of-lt digits-lt))
+  cast n h = le→leb n (2 ^ 24) (le-trans h (le-of-lt (digits-few binary32 a)))
 
   pub down-in : (p : ℕ) → 0 < p → T (inFloat binary32 (pos (digits / p)))
   down-in p P = cast (digits / p) (div-le-self digits p)

@@ -8,6 +8,7 @@ pub mod TotalOrder
 pub mod MaxMin
 pub mod Classes
 pub mod FromZero
+pub mod Examples
 -- What these rest on.
 pub mod Naturals
 pub mod Roots

@@ -22,10 +22,10 @@ not-true false h = refl
 contrary : {b : Bool} → b ≡ true → b ≡ false → ⊥
 contrary h k = true≢false (sym h ∙ k)
 
-pub lt-irreflexive : (x : Float) → lt x x ≡ false
+lt-irreflexive : (x : Float) → lt x x ≡ false
 lt-irreflexive x = not-true (lt x x) (λ (h : lt x x ≡ true). contrary (as-less x x h) (irreflexive x))
 
-pub lt-asymmetric : (x y : Float) → lt x y ≡ true → lt y x ≡ false
+lt-asymmetric : (x y : Float) → lt x y ≡ true → lt y x ≡ false
 lt-asymmetric x y h = not-true (lt y x) (λ (k : lt y x ≡ true). contrary (transitive x y x (as-less x y h) (as-less y x k)) (irreflexive x))
 
 level-below : (s t : Bool) (a b : ℕ) → T (level s a t b) → (below s a t b ≡ false) × (below t b s a ≡ false)

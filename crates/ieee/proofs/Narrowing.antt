@@ -18,7 +18,7 @@ use Rattle.ieee.proofs.Tests.{nan-is, zero-over-zero}
 use Rattle.ieee.proofs.Units.{Lead, neg-neg, neg-plain}
 use Rattle.ieee.proofs.Patterns.{drop-is, units-bits}
 use Rattle.ieee.proofs.ConvertFormat.{convert-value, convert-fits, convert-plain, convert-neg}
-use Rattle.ieee.proofs.Reading.{read-low, read-high, Pattern, pattern, in-size, ofBits-neg}
+use Rattle.ieee.proofs.Reading.{read-low, read-high, below-top, digits-few, Pattern, pattern, in-size, ofBits-neg}
 
 -- ---- sig * 2 ^ j / 2 ^ L at the format f, which drops k digits of the whole part in units: sig / 2 ^ d to the nearest
 module _ (f : Format) (s : Bool) (sig j L k d : ℕ) (D : d + (j + low f) ≡ L + k) where
@@ -99,19 +99,13 @@ module _ (a : ℕ) (A : a ≤ 0x7ff0_0000_0000_0000) where
   abbrev digits : ℕ
   digits = 2 ^ 52 + a % 2 ^ 52
 
-  in-range : a < 2 ^ 63
-  in-range = omega arith
-
-  digits-lt : digits < 2 ^ 53
-  digits-lt = omega arith
-
   digits-ge : 2 ^ 52 ≤ digits
   digits-ge = omega arith
 
   narrow-normal : 897 ≤ field → field < 2047 → size-of a ≡ min ((field - 897) * 0x80_0000 + closest digits (2 ^ 29)) 0x7f80_0000
   narrow-normal lo hi =
-      narrow-bits digits (field - 1) (field - 897) 29 digits-lt (omega arith) (omega arith) (inr (refl, digits-ge)) (ofBits binary64 a)
-      (read-high binary64 a in-range (field - 1) (omega arith) (omega arith))
+      narrow-bits digits (field - 1) (field - 897) 29 (digits-few binary64 a) (omega arith) (omega arith) (inr (refl, digits-ge)) (ofBits binary64 a)
+      (read-high binary64 a (below-top binary64 a A) (field - 1) (omega arith) (omega arith))
 
   pub digits-closest : (2 ^ 23 ≤ closest digits (2 ^ 29)) × (closest digits (2 ^ 29) ≤ 2 ^ 24)
   digits-closest = (
@@ -121,9 +115,9 @@ module _ (a : ℕ) (A : a ≤ 0x7ff0_0000_0000_0000) where
 
   pub narrow-low : 0 < field → field < 897 → size-of a ≡ closest digits (2 ^ (926 - field))
   narrow-low lo hi =
-      narrow-bits digits (field - 1) 0 (926 - field) digits-lt (omega arith) (omega arith) (inl refl) (ofBits binary64 a)
-      (read-high binary64 a in-range (field - 1) (omega arith) (omega arith))
-      ∙ capped (closest digits (2 ^ (926 - field))) (q-le digits (field - 1) 0 (926 - field) digits-lt (omega arith) (omega arith) (inl refl))
+      narrow-bits digits (field - 1) 0 (926 - field) (digits-few binary64 a) (omega arith) (omega arith) (inl refl) (ofBits binary64 a)
+      (read-high binary64 a (below-top binary64 a A) (field - 1) (omega arith) (omega arith))
+      ∙ capped (closest digits (2 ^ (926 - field))) (q-le digits (field - 1) 0 (926 - field) (digits-few binary64 a) (omega arith) (omega arith) (inl refl))
     where
       capped : (q : ℕ) → q ≤ 2 ^ 24 → min (0 * 0x80_0000 + q) 0x7f80_0000 ≡ q
       capped q h = omega arith
@@ -132,8 +126,8 @@ module _ (a : ℕ) (A : a ≤ 0x7ff0_0000_0000_0000) where
   narrow-none h = elim (eq-zero-or-pos field) [
     | inl z ↦
         let t : a % 2 ^ 52 < 2 ^ 53 = omega arith in
-        narrow-bits (a % 2 ^ 52) 0 0 925 t refl (lit≤ tt) (inl refl) (ofBits binary64 a) (read-low binary64 a in-range z) ∙ ap (λ (q : ℕ). min (0 * 0x80_0000 + q) 0x7f80_0000) (closest-none (a % 2 ^ 52) 925 t (lit≤ tt))
-    | inr p ↦ narrow-low p (omega arith) ∙ closest-none digits (926 - field) digits-lt (omega arith)
+        narrow-bits (a % 2 ^ 52) 0 0 925 t refl (lit≤ tt) (inl refl) (ofBits binary64 a) (read-low binary64 a (below-top binary64 a A) z) ∙ ap (λ (q : ℕ). min (0 * 0x80_0000 + q) 0x7f80_0000) (closest-none (a % 2 ^ 52) 925 t (lit≤ tt))
+    | inr p ↦ narrow-low p (omega arith) ∙ closest-none digits (926 - field) (digits-few binary64 a) (omega arith)
   ]
 
   pub narrow-over : 1151 ≤ field → size-of a ≡ 0x7f80_0000

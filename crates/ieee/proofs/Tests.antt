@@ -2,9 +2,9 @@
 use mathlib.Core.Path.{_≡_, refl, sym, subst}
 use mathlib.Core.Bool.{Bool, true, false, not, true≢false, false≢true}
 use lib.Dec.{T}
-use lib.IntN.{pos}
 use lib.Ieee.{Float, nan, inf, fin, Format, binary32, binary64, ne, lt, div, ofBits, isNan}
 use lib.Ieee.Compare.{differs-from-itself}
+use Rattle.ieee.specs.Numbers.{plusZero}
 
 pub yes : {b : Bool} → b ≡ true → T b
 yes h = subst T (sym h) tt
@@ -42,10 +42,7 @@ right-plain a (inf t) h = refl
 right-plain a (fin t n d) h = refl
 
 -- ---- what the code writes
-abbrev pub zero-float : Float
-zero-float = fin false 0 (pos 0)
-
-pub zero-is : (f : Format) → ofBits f 0 ≡ zero-float
+pub zero-is : (f : Format) → ofBits f 0 ≡ plusZero
 unfolding ofBits
 zero-is binary32 = refl
 zero-is binary64 = refl

@@ -11,6 +11,7 @@ use Rattle.laws.specs.Lists.{from}
 use Rattle.ieee.specs.Convert.{convert}
 use Rattle.ieee.specs.Numbers.{plusZero}
 use Rattle.knots.specs.declared.Width.the-variants.{Known}
+use Rattle.model.specs.declared.At.the-variants.{Given}
 use Rattle.model.specs.Knots.{table, atOf}
 use Rattle.window.specs.Window.{Window, statsOf}
 use Rattle.band.specs.Bands.{bandOf, rail}
@@ -55,12 +56,13 @@ Holds (window p sum gate output) = statsOf p ≡ record { sum = pos sum; gate = 
 Holds (band sum b) = bandOf (pos sum) ≡ b
 Holds (step pixels s) = stepOf pixels firstW ≡ s
 Holds (first s j x) = firstX j s ≡ x
-Holds (rounding n r) = HasValue (ofInt binary32 (pos n)) false r 1 × HasValue (convert binary32 (ofInt binary64 (pos n))) false r 1
+Holds (rounding n r) =
+    HasValue (ofInt binary32 (pos n)) false r 1 × HasValue (convert binary32 (ofInt binary64 (pos n))) false r 1
 Holds (knots a b c) =
     atOf
     (table 2 plusZero (padded (a .width) (b .width)) (padded (a .gain) (b .gain)) (padded (a .residual) (b .residual)))
     (Known (eighths (c .width)))
-    ≡ record { number = 0; gain = eighths (c .gain); residual = eighths (c .residual) }
+    ≡ Given (eighths (c .gain)) (eighths (c .residual))
 
 abbrev pub listing : List Reading
 listing =
