@@ -34,7 +34,7 @@ pub extern "C" fn vuzgari_compare_windows(w: usize, h: usize, windows: usize) ->
     requires { ⌜ Sides w h × (1 ≤ windows) ⌝ }
     ensures { λ r. ⌜ r ≡ totalOf w h windows ⌝ }
 {
-    grid::total(w, h, windows)
+    grid::window_count(w, h, windows)
 }
 
 #[no_mangle]

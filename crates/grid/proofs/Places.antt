@@ -15,12 +15,15 @@ use Rattle.grid.proofs.Counts.{count-is, count-most}
 
 -- ---- how many
 
+row-long : (w s j : ℕ) → length (rowOf w s j) ≡ rowCount w s j
+row-long w s j = length-from _ _ (rowCount w s j)
+
 -- one row more is its windows more
 pub total-more : (w s m j : ℕ) → j < m → length (joined (rowOf w s) j (m - j)) ≡ rowCount w s j + length (joined (rowOf w s) (j + 1) (m - (j + 1)))
 total-more w s m j h =
     ap length (joined-more (rowOf w s) j m h)
     ∙ length-append (rowOf w s j) (joined (rowOf w s) (j + 1) (m - (j + 1)))
-    ∙ ap (λ (n : ℕ). n + length (joined (rowOf w s) (j + 1) (m - (j + 1)))) (length-from (λ k. record { x = firstX j s + k * s; y = j * s }) 0 (rowCount w s j))
+    ∙ ap (λ (n : ℕ). n + length (joined (rowOf w s) (j + 1) (m - (j + 1)))) (row-long w s j)
 
 -- T, by a step and a number of rows
 pub total-by : (w h windows s m : ℕ) → s ≡ stepOf (w * h) windows → m ≡ rowsOf h s → length (joined (rowOf w s) 0 m) ≡ totalOf w h windows
@@ -29,18 +32,18 @@ total-by w h windows s m e f =
     ap (λ (n : ℕ). length (joined (rowOf w s) 0 n)) f ∙ ap (λ (n : ℕ). length (joined (rowOf w n) 0 (rowsOf h n))) e
 
 -- T is the rows' windows added up
-abbrev pub added : (ℕ → ℕ) → ℕ → ℕ → ℕ
-added f k zero = 0
-added f k (suc n) = f k + added f (suc k) n
+abbrev pub sumFrom : (ℕ → ℕ) → ℕ → ℕ → ℕ
+sumFrom f k zero = 0
+sumFrom f k (suc n) = f k + sumFrom f (suc k) n
 
-joined-sum : (w s k n : ℕ) → length (joined (rowOf w s) k n) ≡ added (rowCount w s) k n
+joined-sum : (w s k n : ℕ) → length (joined (rowOf w s) k n) ≡ sumFrom (rowCount w s) k n
 joined-sum w s k zero = refl
 joined-sum w s k (suc n) =
     length-append (rowOf w s k) (joined (rowOf w s) (suc k) n)
-    ∙ ap (λ (m : ℕ). m + length (joined (rowOf w s) (suc k) n)) (length-from (λ i. record { x = firstX k s + i * s; y = k * s }) 0 (rowCount w s k))
+    ∙ ap (λ (m : ℕ). m + length (joined (rowOf w s) (suc k) n)) (row-long w s k)
     ∙ ap (λ (m : ℕ). rowCount w s k + m) (joined-sum w s (suc k) n)
 
-pub total-sum : (w h windows : ℕ) → totalOf w h windows ≡ added (rowCount w (stepOf (w * h) windows)) 0 (rowsOf h (stepOf (w * h) windows))
+pub total-sum : (w h windows : ℕ) → totalOf w h windows ≡ sumFrom (rowCount w (stepOf (w * h) windows)) 0 (rowsOf h (stepOf (w * h) windows))
 unfolding placesOf
 total-sum w h windows = joined-sum w (stepOf (w * h) windows) 0 (rowsOf h (stepOf (w * h) windows))
 
@@ -52,7 +55,7 @@ joined-most w s k (suc n) h =
       arith,
       joined-most w s (suc k) n h,
       length-append (rowOf w s k) (joined (rowOf w s) (suc k) n),
-      length-from {A = Place} (λ i. record { x = firstX k s + i * s; y = k * s }) 0 (rowCount w s k),
+      row-long w s k,
       count-most (firstX k s) s (w - 3) h,
     )
 
@@ -153,7 +156,7 @@ module _ (w h windows : ℕ) (g : 1 ≤ windows) (p : Place) where
   unfolding placesOf
   from-places m =
       let r = among-rows p (rowOf w s) 0 (rowsOf h s) m in
-      let a = among p (λ k. record { x = firstX (r .row) s + k * s; y = r .row * s }) 0 (rowCount w s (r .row)) (r .is) in
+      let a = among p (λ k. record { x = firstX (r .row) s + k * s; y = r .row * s }) _ (rowCount w s (r .row)) (r .is) in
       let x : p .x ≡ firstX (r .row) s + a .index * s = ap (λ (q : Place). q .x) (a .is) in
       let y : p .y ≡ r .row * s = ap (λ (q : Place). q .y) (a .is) in
       record {
@@ -172,7 +175,7 @@ module _ (w h windows : ℕ) (g : 1 ≤ windows) (p : Place) where
       let one = count-is (firstX (o .j) s) s (w - 3) some (o .k) .1 (omega (arith, o .x-is, o .x-below)) in
       row-listed p (rowOf w s) 0 (rowsOf h s) (o .j) (omega arith) (omega (arith, row))
       (Memᴰ·cast (placed p (firstX (o .j) s + o .k * s) (o .j * s) (o .x-is) (o .y-is))
-      (listed (λ k. record { x = firstX (o .j) s + k * s; y = o .j * s }) 0 (rowCount w s (o .j)) (o .k) (omega arith) (omega (arith, one))))
+      (listed (λ k. record { x = firstX (o .j) s + k * s; y = o .j * s }) _ (rowCount w s (o .j)) (o .k) (omega arith) (omega (arith, one))))
 
   -- the places of a pass are those of the grid, and no others
   pub on-grid : List·Memᴰ p (placesOf w h windows) ↔ OnGrid w h s p

@@ -60,7 +60,7 @@ pub fn rows(h: usize, s: usize) -> usize
 }
 
 // T: how many windows the pass has.
-pub fn total(w: usize, h: usize, windows: usize) -> usize
+pub fn window_count(w: usize, h: usize, windows: usize) -> usize
     requires { ⌜ Sides w h × (1 ≤ windows) ⌝ }
     ensures { λ r. ⌜ r ≡ totalOf w h windows ⌝ }
 {
@@ -80,11 +80,11 @@ pub fn needed(w: usize, h: usize) -> usize
     requires { ⌜ Sides w h ⌝ }
     ensures { λ r. ⌜ r ≡ neededOf w h ⌝ }
 {
-    let first = total(w, h, WINDOWS);
+    let first = window_count(w, h, WINDOWS);
     if step(w, h, WINDOWS) == 1 {
         return first;
     }
-    let second = total(w, h, DENSE);
+    let second = window_count(w, h, DENSE);
     if first < second { second } else { first }
 }
 

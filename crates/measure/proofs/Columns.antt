@@ -12,7 +12,8 @@ use Rattle.laws.specs.Lists.{joined}
 use Rattle.laws.proofs.Fill.{from-get}
 use Rattle.measure.proofs.Rows.{from-same}
 use Rattle.window.specs.declared.WindowStats.{WindowStats}
-use Rattle.measure.specs.Columns.{columnCount, field, columns, columnsIn, column, figureIn, figuresIn, Stored}
+use Rattle.measure.specs.Columns.{columnCount, field, columns, columnsIn, figureIn, figuresIn}
+use Rattle.measure.specs.Loops.{column, Stored}
 
 -- ---- a store at place i of column d
 

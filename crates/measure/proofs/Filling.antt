@@ -8,7 +8,8 @@ use lib.IntN.{ℤ}
 use Rattle.laws.specs.Lists.{from}
 use Rattle.laws.proofs.Fill.{Writing, start, put-many, end, length-from}
 use Rattle.window.specs.declared.WindowStats.{WindowStats}
-use Rattle.measure.specs.Columns.{columnCount, field, column, Filled}
+use Rattle.measure.specs.Columns.{columnCount, field}
+use Rattle.measure.specs.Loops.{column, Filled}
 use Rattle.measure.proofs.Columns.{column-long}
 use Rattle.measure.proofs.Rows.{from-alike, from-same, from-split}
 

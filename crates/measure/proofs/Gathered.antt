@@ -9,10 +9,9 @@ use mir.Val.{Fits}
 use Rattle.laws.specs.Lists.{from}
 use Rattle.laws.proofs.Fill.{length-from, getD-from}
 use Rattle.window.specs.Window.{statsOf, pixelsAt}
-use Rattle.window_stats.specs.Passes.{wordAt}
+use Rattle.window_stats.specs.Words.{wordAt}
 use Rattle.window_stats.proofs.Words.{words-stats, packed-same}
-use Rattle.measure.specs.Figures.{figureOf}
-use Rattle.measure.specs.Gathered.{gathered, figureOfWords}
+use Rattle.measure.specs.Loops.{figureOf, gathered, figureOfWords}
 
 module _ (img : List ℕ) where
   word-at : (at s n : ℕ) (old : List ℕ) (k : ℕ) → k < n → getD (gathered img at s n old) k 0 ≡ wordAt img (at + k * s)

@@ -12,8 +12,9 @@ use Rattle.grid.specs.Grid.{Place, Sides, firstX, rowCount, rowOf, rowsOf, plac
 use Rattle.grid.proofs.Steps.{step-is, step-most}
 use Rattle.grid.proofs.Counts.{count-most}
 use Rattle.grid.proofs.Places.{total-more, total-by, inside-at, inside-pixels}
-use Rattle.measure.specs.Figures.{figureAt, figureOf, figuresOf}
-use Rattle.measure.specs.Columns.{columnCount, field, columns, columnsIn, column, Filled, RowFits}
+use Rattle.measure.specs.Figures.{figureAt, figuresOf}
+use Rattle.measure.specs.Loops.{figureOf, column, Filled, RowFits}
+use Rattle.measure.specs.Columns.{columnCount, field, columns, columnsIn}
 use Rattle.measure.proofs.Columns.{column-long, whole}
 use Rattle.measure.proofs.Rows.{joined-same, map-rows, map-map}
 

@@ -9,12 +9,9 @@ use Rattle.window.specs.declared.WindowStats.{WindowStats}
 use Rattle.grid.specs.Grid.{Place, Sides, placesOf, totalOf}
 use Rattle.measure.specs.Columns.{columnCount}
 
+-- of the window at a place
 abbrev pub figureAt : List ℕ → ℕ → Place → WindowStats
 figureAt img w p = statsOf (pixelsAt img w (p .y * w + p .x))
-
--- the figures of window k of the grid row at y, s apart from x on
-abbrev pub figureOf : List ℕ → ℕ → ℕ → ℕ → ℕ → ℕ → WindowStats
-figureOf img w y x s k = figureAt img w (record { x = x + k * s; y = y })
 
 abbrev pub figuresOf : List ℕ → ℕ → ℕ → ℕ → List WindowStats
 figuresOf img w h windows = map (figureAt img w) (placesOf w h windows)

@@ -1,3 +1,3 @@
-pub mod Figures
 pub mod Columns
-pub mod Gathered
+pub mod Figures
+pub mod Loops

@@ -3,9 +3,9 @@ ghost use mathlib.Core.Path.{_≡_};
 ghost use Prim.Native.Nat.{ℕ, _+_, _*_, _<_, _≤_, min};
 ghost use lib.ListN.{length};
 ghost use Rattle.grid.specs.Grid.{totalOf};
-ghost use Rattle.measure.specs.Figures.{figureOf, figuresOf, Measurable};
-ghost use Rattle.measure.specs.Columns.{columnsIn, columnCount, Stored, Filled, RowFits};
-ghost use Rattle.measure.specs.Gathered.{gathered, figureOfWords, WordsFit};
+ghost use Rattle.measure.specs.Figures.{figuresOf, Measurable};
+ghost use Rattle.measure.specs.Columns.{columnsIn, columnCount};
+ghost use Rattle.measure.specs.Loops.{figureOf, RowFits, Stored, Filled, gathered, figureOfWords, WordsFit};
 use window::WindowStats;
 
 // A window's figures at place i of each column, the columns being t long.
@@ -56,8 +56,8 @@ fn measure_words(
     }
 }
 
-// At most 32 windows of a grid row: all their pixels are asked for before the first is measured, and they stand side by side, so that
-// several can be measured by one instruction.
+// At most 32 windows of a grid row: all their pixels are asked for before the first is measured, and they stand side by side, so
+// that several can be measured by one instruction.
 fn measure_some(
     img: &[u8],
     w: usize,
@@ -123,7 +123,7 @@ pub fn measure(img: &[u8], w: usize, h: usize, windows: usize, ints: &mut [i32])
     ensures { λ r. ⌜ (r ≡ totalOf w h windows)
         × (now (ints .exit) ≡ columnsIn (figuresOf (now (img .entry)) w h windows) (now (ints .entry))) ⌝ }
 {
-    let t = grid::total(w, h, windows);
+    let t = grid::window_count(w, h, windows);
     let s = grid::step(w, h, windows);
     let m = grid::rows(h, s);
     let mut to = 0;

@@ -55,7 +55,8 @@ Holds (window p sum gate output) = statsOf p ≡ record { sum = pos sum; gate = 
 Holds (band sum b) = bandOf (pos sum) ≡ b
 Holds (step pixels s) = stepOf pixels firstW ≡ s
 Holds (first s j x) = firstX j s ≡ x
-Holds (rounding n r) = HasValue (ofInt binary32 (pos n)) false r 1 × HasValue (convert binary32 (ofInt binary64 (pos n))) false r 1
+Holds (rounding n r) =
+    HasValue (ofInt binary32 (pos n)) false r 1 × HasValue (convert binary32 (ofInt binary64 (pos n))) false r 1
 Holds (knots a b c) =
     atOf
     (table 2 plusZero (padded (a .width) (b .width)) (padded (a .gain) (b .gain)) (padded (a .residual) (b .residual)))

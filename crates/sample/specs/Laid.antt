@@ -1,5 +1,4 @@
 -- The kept windows in the f32 slice: gates, one spare place, squared outputs.
-use mathlib.Core.Path.{_≡_}
 use mathlib.Core.List.{List, _++_, map}
 use Prim.Native.Nat.{ℕ, _+_, _*_, _≤_}
 use lib.ListN.{length, take, drop}
@@ -7,11 +6,9 @@ use lib.IntN.{ℤ}
 use lib.Ieee as Ieee
 use lib.Ieee.{Float, binary32}
 use Rattle.window.specs.declared.WindowStats.{WindowStats}
-use Rattle.band.specs.Bands.{banded, keptOf, sampleOf}
-use Rattle.measure.specs.Columns.{columnCount, figuresIn}
+use Rattle.band.specs.Bands.{banded, keptOf}
 use Rattle.measure.specs.Figures.{Measurable}
 use Rattle.grid.specs.Grid.{totalOf}
-use Rattle.band.specs.declared.Sample.{Sample}
 
 -- the gate, rounded once
 abbrev pub gate32 : WindowStats → Float
@@ -30,12 +27,6 @@ squaresOf fs = map square32 (banded fs)
 -- the slice after it held old: the spare place and what lies beyond are as they were
 unfoldable pub laidIn : List WindowStats → List Float → List Float
 laidIn fs old = gatesOf fs ++ (take 1 (drop (keptOf fs) old) ++ (squaresOf fs ++ drop (2 * keptOf fs + 1) old))
-
--- figures in columns, counted, with room for what is kept of them
-pub record Layable (t : ℕ) (ints : List ℤ) (s : Sample) (floats : List Float) : Type 0 where
-  pub columns : columnCount * t ≤ length ints
-  pub counted : s ≡ sampleOf (figuresIn t ints)
-  pub room : 2 * t + 2 ≤ length floats
 
 -- what a pass takes: an image, and room for its T windows in both slices
 pub record Collectable (img : List ℕ) (w h windows : ℕ) (ints : List ℤ) (floats : List Float) : Type 0 where

@@ -1,11 +1,12 @@
 // Sampling: the windows of a pass measured into the lent i32 slice, counted by band, and laid into the lent f32 slice.
 ghost use mathlib.Core.Path.{_≡_};
 ghost use Prim.Native.Nat.{_+_, _*_, _<_, _≤_};
-ghost use lib.ListN.{length, set};
+ghost use lib.ListN.{length};
 ghost use Rattle.measure.specs.Figures.{figuresOf};
 ghost use Rattle.measure.specs.Columns.{columnsIn, columnCount, figureIn, figuresIn};
 ghost use Rattle.band.specs.Bands.{sampleOf};
-ghost use Rattle.sample.specs.Laid.{gate32, square32, laidIn, Layable, Collectable};
+ghost use Rattle.sample.specs.Laid.{laidIn, Collectable};
+ghost use Rattle.sample.specs.Loops.{laidAt, Layable};
 use band::Sample;
 
 // How many numbers of a window the i32 slice holds: sum, gate, operator output.
@@ -14,8 +15,7 @@ pub const COLUMNS: usize = 3;
 // Window k's gate, rounded once, at place i of floats, and its output, squared, half further on.
 fn lay(ints: &[i32], t: usize, k: usize, floats: &mut [f32], i: usize, half: usize)
     requires { ⌜ (columnCount * t ≤ length (now ints)) × (k < t) × (half + i < length (now floats)) ⌝ }
-    ensures { λ _. ⌜ now (floats .exit)
-        ≡ set (set (now (floats .entry)) i (gate32 (figureIn t (now (ints .entry)) k))) (half + i) (square32 (figureIn t (now (ints .entry)) k)) ⌝ }
+    ensures { λ _. ⌜ now (floats .exit) ≡ laidAt (figureIn t (now (ints .entry)) k) i half (now (floats .entry)) ⌝ }
 {
     let gate = ints[t + k];
     let op = ints[2 * t + k];

@@ -37,14 +37,14 @@ turnedBack-component p i j s t =
     ring (numbers p) (componentE (turnedBack at) i j) (k (sign j) ⊗ componentE at j i)
     (sixteen (λ i j. same (componentE (turnedBack at) i j) (k (sign j) ⊗ componentE at j i)) tt i j s t)
 
--- 16 × 255 at (0, 0), and 0 elsewhere
-abbrev pub level : ℕ → ℕ → ℕ
-level i j = cond (eqb (i + j) 0) 4080 0
+-- of the window of 255s: 16 × 255 at (0, 0), and 0 elsewhere
+abbrev pub white : ℕ → ℕ → ℕ
+white i j = cond (eqb (i + j) 0) 4080 0
 
-pub negative-component : (p : Window) (i j : ℕ) → i < 4 → j < 4 → component (negative p) i j ≡ pos (level i j) -ℤ component p i j
+pub negative-component : (p : Window) (i j : ℕ) → i < 4 → j < 4 → component (negative p) i j ≡ pos (white i j) -ℤ component p i j
 negative-component p i j s t =
-    ring (numbers p) (componentE negativeE i j) (k (pos (level i j)) ⊖ componentE at i j)
-    (sixteen (λ i j. same (componentE negativeE i j) (k (pos (level i j)) ⊖ componentE at i j)) tt i j s t)
+    ring (numbers p) (componentE negativeE i j) (k (pos (white i j)) ⊖ componentE at i j)
+    (sixteen (λ i j. same (componentE negativeE i j) (k (pos (white i j)) ⊖ componentE at i j)) tt i j s t)
   where
     negativeE : ℕ → ℕ → Ex
     negativeE x y = k (pos 255) ⊖ at x y
@@ -95,15 +95,15 @@ turnedBack-same p =
     (each-gated (λ i j. sq (component (turnedBack p) i j) ≡ sq (component p j i))
     (λ i j s t g. ap sq (turnedBack-component p i j s t) ∙ sign-sq (component p j i) j t))
 
-level-gated : (i j : ℕ) → i < 4 → j < 4 → T (gated i j) → level i j ≡ 0
-level-gated i j s t g = eqb→eq (level i j) 0 (sixteen-if gated (λ i j. eqb (level i j) 0) tt i j s t g)
+white-gated : (i j : ℕ) → i < 4 → j < 4 → T (gated i j) → white i j ≡ 0
+white-gated i j s t g = eqb→eq (white i j) 0 (sixteen-if gated (λ i j. eqb (white i j) 0) tt i j s t g)
 
 pub negative-same : (p : Window) → gate (negative p) ≡ gate p
 negative-same p =
     gate-same (negative p) p
     (each-gated (λ i j. sq (component (negative p) i j) ≡ sq (component p i j))
     (λ i j s t g.
-    ap sq (negative-component p i j s t ∙ ap (λ (n : ℕ). pos n -ℤ component p i j) (level-gated i j s t g))
+    ap sq (negative-component p i j s t ∙ ap (λ (n : ℕ). pos n -ℤ component p i j) (white-gated i j s t g))
     ∙ ring (component p i j ∷ []) ((k (pos 0) ⊖ v 0) ⊗ (k (pos 0) ⊖ v 0)) (v 0 ⊗ v 0) tt))
 
 pub added-same : (s : Surface) (p : Window) → gate (added s p) ≡ gate p

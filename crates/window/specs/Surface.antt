@@ -28,8 +28,8 @@ value s x y =
 unfoldable pub missed : Window → ℕ → Surface → ℤ
 missed p D s = sum4 (λ y. sum4 (λ x. sq (pos D *ℤ p x y -ℤ value s x y)))
 
--- The misfit of a surface at D is missed / D². g is 400 times the least over all surfaces and every whole D ≥ 1: 400 times a misfit
--- is never less, and that of some surface at some D is g.
+-- The misfit of a surface at D is missed / D². g is 400 times the least over all surfaces and every whole D ≥ 1: 400 times a
+-- misfit is never less, and that of some surface at some D is g.
 pub record Is400TimesLeastMisfit (p : Window) (g : ℤ) : Type 0 where
   pub never-less : (D : ℕ) → 1 ≤ D → (s : Surface) → (sq (pos D) *ℤ g) ≤ℤ (pos 400 *ℤ missed p D s)
   pub reached : (D : ℕ) × (1 ≤ D) × (s : Surface) × (sq (pos D) *ℤ g ≡ pos 400 *ℤ missed p D s)

@@ -13,7 +13,7 @@ use Rattle.laws.proofs.Choice.{cond-both}
 use Rattle.laws.proofs.Ring.{Ex, v, k, _⊕_, _⊖_, _⊗_, eval, ring, same}
 use Rattle.laws.proofs.Each.{each²-at}
 use Rattle.laws.proofs.Machine.{bnd, under, held, held-of, held-small}
-use Rattle.window.specs.Window.{Pixel, Pixels, component, gateTerms, gate, statsOf, ofRows}
+use Rattle.window.specs.Window.{Pixel, Pixels, component, gateTerms, gate, ofRows}
 use Rattle.window_stats.specs.Passes.{Small, poly4Of, poly4Column, transposed, poly4Down, cross, middle, weighOf}
 use Rattle.window.specs.declared.WindowStats.{WindowStats}
 use Rattle.window.proofs.Places.{_and_, below4²}
@@ -100,7 +100,7 @@ weigh-same : {a0 a1 a2 a3 a4 a5 a6 a7 a8 b0 b1 b2 b3 b4 b5 b6 b7 b8 : ℤ}
     → weighOf a0 a1 a2 a3 a4 a5 a6 a7 a8 ≡ weighOf b0 b1 b2 b3 b4 b5 b6 b7 b8
 weigh-same p0 p1 p2 p3 p4 p5 p6 p7 p8 = rw (p0, p1, p2, p3, p4, p5, p6, p7, p8)
 
-figures : {a b c a′ b′ c′ : ℤ} → a ≡ a′ → b ≡ b′ → c ≡ c′
+pub figures : {a b c a′ b′ c′ : ℤ} → a ≡ a′ → b ≡ b′ → c ≡ c′
     → _≡_ {A = WindowStats} (record { sum = a; gate = b; op = c }) (record { sum = a′; gate = b′; op = c′ })
 figures p q r = rw (p, q, r)
 
@@ -138,7 +138,11 @@ module _ (m c : List (List ℤ)) (e : Pixels (ofRows m)) (r : c ≡ passes m) wh
       (is 3 1 tt tt)
       ∙ ring (numbers q) (weighE at) (weightedE gateTerms at) tt
 
-  pub stats-is : (g : ℤ) → mag g < 2147483648 → g ≡ weighed
-      → _≡_ {A = WindowStats} (record { sum = of c 0 0; gate = held g; op = of c 3 3 }) (statsOf (ofRows m))
-  unfolding statsOf
-  stats-is g f h = figures (is 0 0 tt tt) (held-of {z = g} f ∙ h ∙ weighed-is) (is 3 3 tt tt)
+  pub sum-is : of c 0 0 ≡ q 0 0
+  sum-is = is 0 0 tt tt
+
+  pub gate-is : (g : ℤ) → mag g < 2147483648 → g ≡ weighed → held g ≡ gate (ofRows m)
+  gate-is g f h = held-of {z = g} f ∙ h ∙ weighed-is
+
+  pub output-is : of c 3 3 ≡ q 3 3
+  output-is = is 3 3 tt tt

@@ -12,7 +12,7 @@ use Rattle.laws.proofs.Machine.{four}
 use Rattle.window.specs.Window.{Pixel, ofRows, pixelsAt, statsOf}
 use Rattle.window.proofs.Places.{_and_, below4}
 use Rattle.window.proofs.Same.{stats-alike}
-use Rattle.window_stats.specs.Passes.{wordAt, rowIn, rowsIn}
+use Rattle.window_stats.specs.Words.{wordAt, rowIn, rowsIn}
 
 byte-pixel : (n : ℕ) → n < 256 → Pixel (pos n)
 byte-pixel n h = record { byte = n; is = refl; most = omega arith }

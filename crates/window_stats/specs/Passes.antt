@@ -1,33 +1,22 @@
--- What each step of the measuring makes: rows of pixels, the four polynomials down and across, the weighted squares.
+-- Only for the steps of the code: the four polynomials down and across, the weighted squares. What they come to is window's `statsOf`.
 use mathlib.Core.List.{List, [], _∷_}
-use Prim.Native.Nat.{ℕ, _+_, _*_, _/_, _%_, _≤_}
-use lib.ListN.{getD}
+use Prim.Native.Nat.{ℕ, _≤_}
 use lib.IntN.{ℤ, pos, natAbs, _+ℤ_, _-ℤ_, _*ℤ_}
 use Rattle.window.specs.Window.{sq, ofRows}
 
 pub record Small (n : ℕ) (z : ℤ) : Type 0 where
   pub small : natAbs z ≤ n
 
--- four pixels from a place of the image as one number, the first lowest
-abbrev pub wordAt : List ℕ → ℕ → ℕ
-wordAt img at = getD img at 0 + getD img (at + 1) 0 * 256 + getD img (at + 2) 0 * 65536 + getD img (at + 3) 0 * 16777216
-
--- the four pixels of such a number, and four rows of them
-abbrev pub rowIn : ℕ → List ℤ
-rowIn n = pos (n % 256) ∷ pos (n / 256 % 256) ∷ pos (n / 65536 % 256) ∷ pos (n / 16777216) ∷ []
-
-abbrev pub rowsIn : ℕ → ℕ → ℕ → ℕ → List (List ℤ)
-rowsIn a b c d = rowIn a ∷ rowIn b ∷ rowIn c ∷ rowIn d ∷ []
-
 abbrev pub poly4Of : ℤ → ℤ → ℤ → ℤ → List ℤ
 poly4Of a b c d =
     (a +ℤ b +ℤ c +ℤ d) ∷ (pos 3 *ℤ (d -ℤ a) +ℤ c -ℤ b) ∷ (a -ℤ b -ℤ c +ℤ d) ∷ (a -ℤ pos 3 *ℤ b +ℤ pos 3 *ℤ c -ℤ d) ∷ []
 
-abbrev pub columnOf : List (List ℤ) → ℕ → List ℤ
-columnOf m x = ofRows m x 0 ∷ ofRows m x 1 ∷ ofRows m x 2 ∷ ofRows m x 3 ∷ []
+-- the four numbers of column x, from row 0 down
+abbrev pub columnDown : List (List ℤ) → ℕ → List ℤ
+columnDown m x = ofRows m x 0 ∷ ofRows m x 1 ∷ ofRows m x 2 ∷ ofRows m x 3 ∷ []
 
 abbrev pub transposed : List (List ℤ) → List (List ℤ)
-transposed m = columnOf m 0 ∷ columnOf m 1 ∷ columnOf m 2 ∷ columnOf m 3 ∷ []
+transposed m = columnDown m 0 ∷ columnDown m 1 ∷ columnDown m 2 ∷ columnDown m 3 ∷ []
 
 -- the polynomials down column x
 abbrev pub poly4Column : List (List ℤ) → ℕ → List ℤ

@@ -5,7 +5,8 @@ ghost use Prim.Native.Nat.{_+_, _*_, _<_, _≤_};
 ghost use lib.ListN.{length};
 ghost use Rattle.laws.specs.Lists.{Each, Each²};
 ghost use Rattle.window.specs.Window.{Pixel, ofRows, pixelsAt, statsOf};
-ghost use Rattle.window_stats.specs.Passes.{Small, wordAt, rowIn, rowsIn, poly4Of, poly4Column, poly4Down, columnOf, transposed, weighOf};
+ghost use Rattle.window_stats.specs.Words.{wordAt, rowIn, rowsIn};
+ghost use Rattle.window_stats.specs.Passes.{Small, poly4Of, poly4Column, poly4Down, columnDown, transposed, weighOf};
 use window::WindowStats;
 
 // The window whose first pixel is img[at], its rows being w apart.
@@ -138,9 +139,9 @@ fn poly4_down(m: [[i32; 4]; 4]) -> [[i32; 4]; 4]
 }
 
 // Column x.
-fn column(m: [[i32; 4]; 4], x: usize) -> [i32; 4]
+fn column_down(m: [[i32; 4]; 4], x: usize) -> [i32; 4]
     requires { ⌜ x < 4 ⌝ }
-    ensures { λ r. ⌜ r ≡ columnOf m x ⌝ }
+    ensures { λ r. ⌜ r ≡ columnDown m x ⌝ }
 {
     [m[0][x], m[1][x], m[2][x], m[3][x]]
 }
@@ -149,9 +150,9 @@ fn column(m: [[i32; 4]; 4], x: usize) -> [i32; 4]
 fn transpose(m: [[i32; 4]; 4]) -> [[i32; 4]; 4]
     ensures { λ r. ⌜ r ≡ transposed m ⌝ }
 {
-    let c0 = column(m, 0);
-    let c1 = column(m, 1);
-    let c2 = column(m, 2);
-    let c3 = column(m, 3);
+    let c0 = column_down(m, 0);
+    let c1 = column_down(m, 1);
+    let c2 = column_down(m, 2);
+    let c3 = column_down(m, 3);
     [c0, c1, c2, c3]
 }

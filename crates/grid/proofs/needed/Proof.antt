@@ -9,8 +9,8 @@ use Rattle.grid.proofs.Memory.{needed-one, needed-both}
 use Rattle.grid.proofs.needed.Statement.{statement}
 use Rattle.grid.proofs.needed.Tie as tie
 
-total-requires : tie.Need-total-requires
-total-requires c κs = search needs
+window-count-requires : tie.Need-window-count-requires
+window-count-requires c κs = search needs
 
 step-requires : tie.Need-step-requires
 step-requires c κs = search needs
@@ -18,17 +18,17 @@ step-requires c κs = search needs
 returns : tie.Need-returns
 returns c =
     let a = c .before .before .before .args in
-    c .before .before .total .ensures ∙ needed-one (a .w) (a .h) (sym (c .before .step .ensures) ∙ c .if1 .taken)
+    c .before .before .window-count .ensures ∙ needed-one (a .w) (a .h) (sym (c .before .step .ensures) ∙ c .if1 .taken)
 
-total-requires-2 : tie.Need-total-requires-2
-total-requires-2 c κs = search needs
+window-count-requires-2 : tie.Need-window-count-requires-2
+window-count-requires-2 c κs = search needs
 
 -- past the test M is the larger T
-both : (c : tie.After-total2) → max (c .before .before .before .total .result) (c .total2 .result) ≡ neededOf (c .before .before .before .before .args .w) (c .before .before .before .before .args .h)
+both : (c : tie.After-window-count2) → max (c .before .before .before .window-count .result) (c .window-count2 .result) ≡ neededOf (c .before .before .before .before .args .w) (c .before .before .before .before .args .h)
 both c =
     let a = c .before .before .before .before .args in
-    ap (λ (n : ℕ). max n (c .total2 .result)) (c .before .before .before .total .ensures)
-    ∙ ap (λ (n : ℕ). max (totalOf (a .w) (a .h) firstW) n) (c .total2 .ensures)
+    ap (λ (n : ℕ). max n (c .window-count2 .result)) (c .before .before .before .window-count .ensures)
+    ∙ ap (λ (n : ℕ). max (totalOf (a .w) (a .h) firstW) n) (c .window-count2 .ensures)
     ∙ needed-both (a .w) (a .h) (λ e. c .before .if1 .left (c .before .before .step .ensures ∙ e))
 
 returns-2 : tie.Need-returns-2
@@ -39,4 +39,4 @@ returns-3 c = omega (arith, both (c .before))
 
 pub needed-spec : {M : Type 1} → statement M
 needed-spec =
-    tie.close (tie.spec total-requires step-requires returns total-requires-2 returns-2 returns-3)
+    tie.close (tie.spec window-count-requires step-requires returns window-count-requires-2 returns-2 returns-3)

@@ -4,8 +4,8 @@ use native.Mathlib.Omega.{arith}
 use lib.ListN.{length}
 use denote.Ref.{now}
 use Rattle.laws.proofs.Fill.{Front, front-start, front-put, front-end}
-use Rattle.window_stats.specs.Passes.{wordAt}
-use Rattle.measure.specs.Gathered.{gathered}
+use Rattle.window_stats.specs.Words.{wordAt}
+use Rattle.measure.specs.Loops.{gathered}
 use Rattle.measure.proofs.gather.Statement.{statement}
 use Rattle.measure.proofs.gather.Tie as tie
 

@@ -17,8 +17,8 @@ Inv-loop img w h windows ints₀ t s m to₀ j₀ ints to j = Pass w h windows t
 abbrev μ-loop : tie.MeasureT-loop
 μ-loop img w h windows ints₀ t s m to₀ j₀ ints to j = m - j
 
-total-requires : tie.Need-total-requires Inv-loop μ-loop
-total-requires c κs = (c .before .pre .sides, c .before .pre .some)
+window-count-requires : tie.Need-window-count-requires Inv-loop μ-loop
+window-count-requires c κs = (c .before .pre .sides, c .before .pre .some)
 
 step-requires : tie.Need-step-requires Inv-loop μ-loop
 step-requires c κs = (c .before .before .pre .sides, c .before .before .pre .some)
@@ -31,16 +31,16 @@ rows-requires c κs =
 loop-holds : tie.Need-loop-holds Inv-loop μ-loop
 loop-holds c =
     let s = c .before .before .before .before in
-    let p : Pass (s .args .w) (s .args .h) (s .args .windows) (c .before .before .total .result) (c .before .step .result) (c .rows .result) =
-    record { sides = s .pre .sides; some = s .pre .some; total = c .before .before .total .ensures; step = c .before .step .ensures; rows = c .rows .ensures } in
-    (p, begin (now (s .args .img)) (s .args .w) (s .args .h) (s .args .windows) (c .before .step .result) (c .rows .result) (c .before .before .total .result) (now (s .args .ints)) p)
+    let p : Pass (s .args .w) (s .args .h) (s .args .windows) (c .before .before .window-count .result) (c .before .step .result) (c .rows .result) =
+    record { sides = s .pre .sides; some = s .pre .some; total = c .before .before .window-count .ensures; step = c .before .step .ensures; rows = c .rows .ensures } in
+    (p, begin (now (s .args .img)) (s .args .w) (s .args .h) (s .args .windows) (c .before .step .result) (c .rows .result) (c .before .before .window-count .result) (now (s .args .ints)) p)
 
 -- j and the step are small
 small : (c : tie.In-loop Inv-loop μ-loop) → (c .before .loop .j < 16384) × (c .before .before .before .step .result ≤ 16384)
 small c = (omega (arith, c .loop-test .taken, rows-few (c .before .loop .inv .0)), step-small (c .before .loop .inv .0))
 
 -- the columns have room
-enough : (c : tie.At-loop Inv-loop μ-loop) → columnCount * c .before .before .before .total .result ≤ length (now (c .before .before .before .before .before .args .ints))
+enough : (c : tie.At-loop Inv-loop μ-loop) → columnCount * c .before .before .before .window-count .result ≤ length (now (c .before .before .before .before .before .args .ints))
 enough c = omega (arith, c .loop .inv .0 .total, c .before .before .before .before .before .pre .columns)
 
 first-x-requires : tie.Need-first-x-requires Inv-loop μ-loop
@@ -90,7 +90,7 @@ measure-spec =
     (tie.spec
     Inv-loop
     μ-loop
-    total-requires
+    window-count-requires
     step-requires
     rows-requires
     loop-holds

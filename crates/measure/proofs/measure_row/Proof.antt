@@ -6,8 +6,8 @@ use native.Mathlib.Omega.{arith}
 use lib.ListN.{length}
 use lib.IntN.{ℤ}
 use denote.Ref.{now}
-use Rattle.measure.specs.Figures.{figureAt, figureOf}
-use Rattle.measure.specs.Columns.{Filled, RowFits}
+use Rattle.measure.specs.Figures.{figureAt}
+use Rattle.measure.specs.Loops.{figureOf, Filled, RowFits}
 use Rattle.measure.proofs.Filling.{filled-none, filled-more}
 use Rattle.measure.proofs.measure_row.Statement.{statement}
 use Rattle.measure.proofs.measure_row.Tie as tie

@@ -7,8 +7,8 @@ use lib.ListN.{length, drop}
 use lib.IntN.{ℤ}
 use denote.Ref.{now}
 use Rattle.laws.proofs.Fill.{Row, row-start, row-put, row-end}
-use Rattle.measure.specs.Columns.{columnCount, field, column}
-use Rattle.measure.specs.Gathered.{figureOfWords}
+use Rattle.measure.specs.Columns.{columnCount, field}
+use Rattle.measure.specs.Loops.{column, figureOfWords}
 use Rattle.measure.proofs.Columns.{column-long}
 use Rattle.measure.proofs.measure_words.Statement.{statement}
 use Rattle.measure.proofs.measure_words.Tie as tie

@@ -9,7 +9,7 @@ use Rattle.laws.specs.Lists.{Each}
 use Rattle.laws.proofs.Machine.{four}
 use Rattle.window.specs.Window.{Pixel, ofRows, statsOf}
 use Rattle.window.proofs.Places.{_and_}
-use Rattle.window_stats.specs.Passes.{rowIn}
+use Rattle.window_stats.specs.Words.{rowIn}
 use Rattle.window_stats.proofs.Words.{row-pixels}
 use Rattle.window_stats.proofs.packed.Statement.{statement}
 use Rattle.window_stats.proofs.packed.Tie as tie

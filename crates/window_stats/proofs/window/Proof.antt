@@ -1,5 +1,6 @@
 -- `window_stats::window` meets its contract: the four numbers hold the pixels of the window, and its figures depend on those alone.
 use mathlib.Core.Path.{_∙_}
+use native.Mathlib.Omega.{arith}
 use borrow.Author.Needs.{needs}
 use denote.Ref.{now}
 use Rattle.window_stats.proofs.Words.{words-stats, packed-same}
@@ -7,13 +8,13 @@ use Rattle.window_stats.proofs.window.Statement.{statement}
 use Rattle.window_stats.proofs.window.Tie as tie
 
 word-requires : tie.Need-word-requires
-word-requires c κs = search needs
+word-requires c κs = omega arith
 
 add-word : tie.Need-add-word
 add-word c = search needs
 
 word-requires-2 : tie.Need-word-requires-2
-word-requires-2 c κs = search needs
+word-requires-2 c κs = omega arith
 
 mul-word : tie.Need-mul-word
 mul-word c = search needs
@@ -22,7 +23,7 @@ add-word-2 : tie.Need-add-word-2
 add-word-2 c = search needs
 
 word-requires-3 : tie.Need-word-requires-3
-word-requires-3 c κs = search needs
+word-requires-3 c κs = omega arith
 
 mul-word-2 : tie.Need-mul-word-2
 mul-word-2 c = search needs
@@ -31,7 +32,7 @@ add-word-3 : tie.Need-add-word-3
 add-word-3 c = search needs
 
 word-requires-4 : tie.Need-word-requires-4
-word-requires-4 c κs = search needs
+word-requires-4 c κs = omega arith
 
 packed-requires : tie.Need-packed-requires
 packed-requires c κs = search needs

@@ -7,9 +7,9 @@ use borrow.Author.Needs.{needs}
 use lib.Dec.{T, ltb, leb}
 use lib.IntN.{ℤ}
 use Rattle.laws.specs.Lists.{Each²}
-use Rattle.window.specs.Window.{Pixels, ofRows}
+use Rattle.window.specs.Window.{Pixels, ofRows, statsOf}
 use Rattle.window_stats.specs.Passes.{Small, transposed, poly4Down}
-use Rattle.window_stats.proofs.Passes.{passes, in-rows, of, pixels-small, passed-small, of-small, stats-is}
+use Rattle.window_stats.proofs.Passes.{passes, in-rows, of, pixels-small, passed-small, of-small, figures, sum-is, gate-is, output-is}
 use Rattle.window.proofs.Bounds.{most}
 use Rattle.window.proofs.Places.{_and_}
 use Rattle.window_stats.proofs.window_stats.Statement.{statement}
@@ -119,11 +119,14 @@ index-2-op : tie.Need-index-2-op
 index-2-op c = omega arith
 
 returns : tie.Need-returns
+unfolding statsOf
 returns c =
     let a = c .before .before .before .before .before .before .before .before .before .before .before .before in
-    stats-is (a .before .before .before .args .px) (a .poly4-down2 .result) (measured a) (passed a) (c .before .weigh .result)
-    (c .before .weigh .ok)
-    (c .before .weigh .ensures)
+    let m = a .before .before .before .args .px in
+    let r = a .poly4-down2 .result in
+    let g = c .before .weigh in
+    figures (sum-is m r (measured a) (passed a)) (gate-is m r (measured a) (passed a) (g .result) (g .ok) (g .ensures))
+    (output-is m r (measured a) (passed a))
 
 pub window-stats-spec : {M : Type 1} → statement M
 window-stats-spec =

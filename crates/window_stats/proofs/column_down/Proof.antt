@@ -1,9 +1,9 @@
--- `window_stats::column` meets its contract: what a read hands on is the element itself.
+-- `window_stats::column_down` meets its contract: what a read hands on is the element itself.
 use native.Mathlib.Omega.{arith}
 use Rattle.laws.proofs.Machine.{held-of, four}
 use borrow.Author.Needs.{needs}
-use Rattle.window_stats.proofs.column.Statement.{statement}
-use Rattle.window_stats.proofs.column.Tie as tie
+use Rattle.window_stats.proofs.column_down.Statement.{statement}
+use Rattle.window_stats.proofs.column_down.Tie as tie
 
 mul-t6 : tie.Need-mul-t6
 mul-t6 c = search needs
@@ -46,8 +46,8 @@ returns c =
     four (held-of (c .before .before .before .t9 .given)) (held-of (c .before .before .t15 .given)) (held-of (c .before .t21 .given))
     (held-of (c .t27 .given))
 
-pub column-spec : {M : Type 1} → statement M
-column-spec =
+pub column-down-spec : {M : Type 1} → statement M
+column-down-spec =
     tie.close
     (tie.spec
     mul-t6

@@ -1,4 +1,4 @@
--- `grid::total` meets its contract: what is counted and the rows still to count make up T.
+-- `grid::window_count` meets its contract: what is counted and the rows still to count make up T.
 use mathlib.Core.Path.{_≡_, sym, ap, subst}
 use Prim.Native.Nat.{ℕ, _+_, _-_, _*_, _≤_}
 use native.Mathlib.Omega.{arith}
@@ -10,8 +10,8 @@ use Rattle.grid.specs.Grid.{rowOf, rowsOf, totalOf}
 use Rattle.grid.proofs.Steps.{few, step-is, step-most}
 use Rattle.grid.proofs.Counts.{count-most}
 use Rattle.grid.proofs.Places.{total-more, total-by, total-most}
-use Rattle.grid.proofs.total.Statement.{statement}
-use Rattle.grid.proofs.total.Tie as tie
+use Rattle.grid.proofs.window_count.Statement.{statement}
+use Rattle.grid.proofs.window_count.Tie as tie
 
 record Inv (w h windows s m t j : ℕ) : Type 0 where
   step : s ≡ stepOf (w * h) windows
@@ -101,8 +101,8 @@ returns c =
     let i = c .before .loop .inv in
     omega (arith, i .left, ap length (joined-none (rowOf (c .before .before .before .before .args .w) (c .before .before .before .step .result)) (c .before .loop .j) (c .before .before .rows .result) (c .loop-test .left)))
 
-pub total-spec : {M : Type 1} → statement M
-total-spec =
+pub window-count-spec : {M : Type 1} → statement M
+window-count-spec =
     tie.close
     (tie.spec
     Inv-loop
