@@ -1,5 +1,6 @@
 pub mod Steps
 pub mod Counts
 pub mod Places
+pub mod Order
 pub mod Memory
 pub mod Examples

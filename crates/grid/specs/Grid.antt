@@ -1,7 +1,7 @@
 -- The windows of a pass, by the places of their first pixels, in sampling order.
 use mathlib.Core.Path.{_≡_}
-use mathlib.Core.List.{List}
-use mathlib.Core.Logic.{_↔_}
+use mathlib.Core.List.{List, [], _∷_, List·Memᴰ}
+use mathlib.Core.Logic.{_↔_, _⊎_}
 use Prim.Native.Nat.{ℕ, _+_, _-_, _*_, _/_, _%_, _≤_, _<_}
 use lib.ListN.{length}
 use Rattle.laws.specs.Lists.{from, joined}
@@ -23,6 +23,14 @@ pub record OnGrid (w h s : ℕ) (p : Place) : Type 0 where
   pub y-is : p .y ≡ j * s
   pub x-below : p .x < w - 3
   pub y-below : p .y < h - 3
+
+-- sampling order: row by row, and along a row; each place stands before all that follow it
+abbrev pub Before : Place → Place → Type 0
+Before p q = (p .y < q .y) ⊎ ((p .y ≡ q .y) × (p .x < q .x))
+
+abbrev pub InOrder : List Place → Type 0
+InOrder [] = Unit {0}
+InOrder (p ∷ l) = ((q : Place) → List·Memᴰ q l → Before p q) × InOrder l
 
 -- n is how many of first, first + s, first + 2s, .. lie below end
 abbrev pub IsCountBelow : ℕ → ℕ → ℕ → ℕ → Type 0

@@ -1,4 +1,4 @@
--- Only for the loops that fill the columns: what each asks of the slices and what it leaves in them. What they come to is `columnsIn`.
+-- Only for the loops that fill the columns: what each asks of the slices and what it leaves in them. They come to `columnsIn`.
 use mathlib.Core.Path.{_≡_}
 use mathlib.Core.List.{List, _++_}
 use Prim.Native.Nat.{ℕ, _+_, _*_, _≤_, _<_}

@@ -1,5 +1,5 @@
--- Demand 3, of the gate figure that measuring a window gives. Surfaces and sums are whole numbers without limit; the pixels may be
--- any whole numbers, 0 to 255 or not.
+-- Demand 3, of the gate figure that measuring a window gives. Surfaces and sums are whole numbers without limit; the pixels may
+-- be any whole numbers, 0 to 255 or not.
 use mathlib.Core.Path.{_≡_}
 use mathlib.Core.Logic.{_↔_}
 use Prim.Native.Nat.{ℕ, _≤_}
@@ -22,8 +22,8 @@ pub record Demand3 (p : Window) : Type 0 where
   pub equality : (s : Surface) × (pos 400 *ℤ missed p 400 s ≡ sq (pos 400) *ℤ figure p)
   -- gate is zero exactly when some surface equals 400 times the pixel at all sixteen places
   pub zero : (figure p ≡ pos 0) ↔ ((s : Surface) × Is400Times s p)
-  -- the same gate for the window mirrored, given quarter turns, made negative, or with any surface added, whether or not that keeps
-  -- its pixels in 0 to 255
+  -- the same gate for the window mirrored, given quarter turns, made negative, or with any surface added, whether or not that
+  -- keeps its pixels in 0 to 255
   pub mirrored-across : figure (across p) ≡ figure p
   pub mirrored-down : figure (down p) ≡ figure p
   pub quarter-turn : figure (turned p) ≡ figure p

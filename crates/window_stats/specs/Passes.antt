@@ -1,12 +1,14 @@
--- Only for the steps of the code: the four polynomials down and across, the weighted squares. What they come to is window's `statsOf`.
+-- Only for the steps of the code: the four polynomials down and across, the weighted squares. They come to window's `statsOf`.
 use mathlib.Core.List.{List, [], _∷_}
 use Prim.Native.Nat.{ℕ, _≤_}
 use lib.IntN.{ℤ, pos, natAbs, _+ℤ_, _-ℤ_, _*ℤ_}
 use Rattle.window.specs.Window.{sq, ofRows}
 
+-- of a magnitude that the sums of the code can hold
 pub record Small (n : ℕ) (z : ℤ) : Type 0 where
   pub small : natAbs z ≤ n
 
+-- the four polynomials over four values
 abbrev pub poly4Of : ℤ → ℤ → ℤ → ℤ → List ℤ
 poly4Of a b c d =
     (a +ℤ b +ℤ c +ℤ d) ∷ (pos 3 *ℤ (d -ℤ a) +ℤ c -ℤ b) ∷ (a -ℤ b -ℤ c +ℤ d) ∷ (a -ℤ pos 3 *ℤ b +ℤ pos 3 *ℤ c -ℤ d) ∷ []
