@@ -44,7 +44,8 @@ uint64_t vuzgari_noise_windows(size_t w, size_t h);
    and 2 * M + 2 float are zero, and the first 40 bytes of `answer` are ten fields of 4 bytes, low byte first: the
    number; sigma, as the bits of a float; milli, the floor of 1,000 times sigma; the windows kept in each of four bands,
    from dark to bright; rail, the windows dropped near black or white; rounds; passes. Counts are those of the last
-   pass, rounds those of all. Sigma and milli are zero unless the number is 0. What is lent beyond is unchanged. */
+   pass, rounds those of all. Sigma and milli are zero unless the number is 0. What is lent beyond is unchanged: a NaN
+   lent there is proved to stay a NaN, and that its bits stay is tested. */
 uint32_t vuzgari_noise(const uint8_t *pixels, size_t pixels_len, size_t w, size_t h,
                        int32_t *ints, size_t ints_len, float *floats, size_t floats_len,
                        uint8_t *answer, size_t answer_len);

@@ -15,6 +15,8 @@ mod noise;
 mod patterns;
 mod rounds;
 mod sample;
+mod stored;
+mod twins;
 mod window;
 
 /// Whose calls make the table of times.
@@ -33,6 +35,7 @@ pub const ALL: &[Topic] = &[
     model::TOPIC,
     edge::TOPIC,
     lids::TOPIC,
+    twins::TOPIC,
     noise::LARGE,
     lids::LARGE,
     patterns::TOPIC,

@@ -64,7 +64,7 @@ impl Call {
         Call { pixels: Rc::new(pixels), sides: [columns.len(), rows.len()], centre, ..self.clone() }
     }
 
-    fn ours(&self) -> u64 {
+    pub fn ours(&self) -> u64 {
         let ([w, h], [ox, oy], [cx, cy]) = (self.sides, self.origin, self.centre);
         // SAFETY: the pixels live through the call, which reads no others.
         unsafe { vuzgari_edge_width(self.pixels.as_ptr(), self.pixels.len(), w, h, ox, oy, cx, cy) }

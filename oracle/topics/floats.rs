@@ -145,8 +145,10 @@ fn bits64(x: f64) -> u64 {
     if x.is_nan() { 0x7ff8_0000_0000_0000 } else { x.to_bits() }
 }
 
-/// Each helper under its small letter: every special value, with a second one picked, then seeded inputs. Then some with the
-/// answer's last bit altered, under the capital letter. Nothing is stored of two zeros, where the answer's sign is open.
+/// Each helper under its small letter: every special value, with a second one picked, then seeded inputs. Then some that are
+/// altered, under the capital letter: in the answer's last bit, and one each in a separator and in the last digit, for which a byte
+/// stands that is none, but has the same last four bits as it or, with 9 added, as a letter has. Nothing is stored of two zeros,
+/// where the answer's sign is open.
 fn store() -> Stored {
     const GOOD: usize = 100;
     const ALTERED: usize = 6;
@@ -167,8 +169,16 @@ fn store() -> Stored {
                     break b;
                 }
             };
-            let (letter, altered) = if k < GOOD { (letter, 0) } else { (letter.to_ascii_uppercase(), 1) };
-            stored.stdin += &format!("{letter} {a:016x} {b:016x} {:016x}\n", answer(a, b) ^ altered);
+            let altered = (k >= GOOD).then(|| k - GOOD);
+            let letter = if altered.is_some() { letter.to_ascii_uppercase() } else { letter };
+            let bit = u64::from(altered.is_some_and(|k| k > 1));
+            let mut line = format!("{letter} {a:016x} {b:016x} {:016x}\n", answer(a, b) ^ bit).into_bytes();
+            match altered {
+                Some(0) => line[35] = b'_',
+                Some(1) => line[51] -= if line[51] < b'a' { 16 } else { 32 },
+                _ => {}
+            }
+            stored.stdin += str::from_utf8(&line).expect("bytes of ASCII");
         }
         stored.stdout += &format!("{name}: {GOOD} agree, 0 differ; altered: 0 agree, {ALTERED} differ\n");
     }

@@ -1,10 +1,10 @@
 //! The gradient accumulator: document 01's numbers in their order, and what is accepted beside the original's.
 
-use super::{beside, random::*, Count, Run, Topic, Value};
+use super::{beside, random::*, stored, stored::Lines, twins, Count, Run, Stored, Topic, Value};
 use original::uncertainty::PixelGradients;
 use std::{collections::BTreeMap, iter::repeat_with};
 
-pub const TOPIC: Topic = Topic { name: "gradients", gate: true, compare, store: None, speed: Some(speed) };
+pub const TOPIC: Topic = Topic { name: "gradients", gate: true, compare, store: Some(store), speed: Some(speed) };
 
 type Cells = [f32; 1024];
 
@@ -172,6 +172,28 @@ impl<T: Value + Clone> Value for Call<T> {
     }
 }
 
+/// A support, and what is added at which pixels of it.
+pub type Steps = ([i32; 2], Count<0>, Vec<([i32; 2], [f32; 2])>);
+
+/// The covariance after a reset and adds, from a state that held other things.
+pub fn our_sums((origin, Count(side), adds): &Steps) -> (u32, [f32; 3]) {
+    let mut state = State { origin: [7, 7], side: 99, gx: [f32::NAN; 1024], gy: [1.0; 1024] };
+    state.reset(*origin, *side);
+    for &([x, y], v) in adds {
+        state.add(x, y, v);
+    }
+    state.covariance()
+}
+
+pub fn their_sums((origin, Count(side), adds): &Steps) -> (u32, [f32; 3]) {
+    let mut sums = PixelGradients::default();
+    sums.reset(*origin, *side);
+    if *side > 0 {
+        adds.iter().for_each(|&([x, y], v)| sums.add(x, y, v));
+    }
+    sums.covariance().map_or((13, [0.0; 3]), |c| (0, [c.xx, c.xy, c.yy]))
+}
+
 fn compare(run: &mut Run) {
     let mut numbers: BTreeMap<(&str, u32), u64> = BTreeMap::new();
     let mut met = |what, number| {
@@ -251,29 +273,70 @@ fn compare(run: &mut Run) {
         let adds = (0..random.below(200)).map(|_| (origin.map(|z| z + random.below(side.max(1) as u64) as i32), addends(&mut random)));
         (origin, Count::<0>(side), adds.filter(|(_, v)| v.iter().all(|v| v.is_finite())).collect::<Vec<_>>())
     });
-    run.same(
-        "sums",
-        steps.take(run.size(10_000) as usize),
-        |(origin, Count(side), adds)| {
-            let mut state = State { origin: [7, 7], side: 99, gx: [f32::NAN; 1024], gy: [1.0; 1024] };
-            state.reset(*origin, *side);
-            for &([x, y], v) in adds {
-                state.add(x, y, v);
-            }
-            state.covariance()
-        },
-        |(origin, Count(side), adds)| {
-            let mut sums = PixelGradients::default();
-            sums.reset(*origin, *side);
-            if *side > 0 {
-                adds.iter().for_each(|&([x, y], v)| sums.add(x, y, v));
-            }
-            sums.covariance().map_or((13, [0.0; 3]), |c| (0, [c.xx, c.xy, c.yy]))
-        },
-    );
+    run.same("sums", steps.take(run.size(10_000) as usize), our_sums, their_sums);
     for ((what, number), n) in numbers {
         run.count(&format!("{what} answered {number}"), n);
     }
+}
+
+/// The calls of a list, and what the original answers, with document 01's numbers.
+struct Replay {
+    sums: PixelGradients,
+    lines: Lines,
+}
+
+impl Replay {
+    fn reset(&mut self, origin: [i32; 2], side: usize) {
+        let number = refusal(origin, side);
+        if number == 0 {
+            self.sums.reset(origin, side);
+        }
+        let [x, y] = origin.map(stored::signed);
+        self.lines.call('r', &[x, y, side as u64], &format!("reset {number}"));
+    }
+
+    fn add(&mut self, at: [i32; 2], v: [f32; 2]) {
+        let place = |k: usize| (0..self.sums.side as i64).contains(&(i64::from(at[k]) - i64::from(self.sums.origin[k])));
+        let number = match (v.iter().all(|v| v.is_finite()), place(0) && place(1)) {
+            (false, _) => 12,
+            (true, false) => 11,
+            (true, true) => 0,
+        };
+        if number == 0 {
+            self.sums.add(at[0], at[1], v);
+        }
+        let ([x, y], [vx, vy]) = (at.map(stored::signed), v.map(stored::pattern));
+        self.lines.call('a', &[x, y, vx, vy], &format!("add {number}"));
+    }
+
+    fn covariance(&mut self) {
+        let (number, c) = self.sums.covariance().map_or((13, [0.0; 3]), |c| (0, [c.xx, c.xy, c.yy]));
+        self.lines.call('c', &[], &format!("covariance {number}{}", stored::shown(&c)));
+    }
+}
+
+/// Each twin, then seeded supports, of which some are refused, with adds of which some are.
+fn store() -> Stored {
+    let mut replay = Replay { sums: PixelGradients::default(), lines: Lines::new(4) };
+    replay.covariance();
+    for twin in twins::twins("gram") {
+        let twins::Input::Gram((origin, Count(side), adds)) = twin.input else { unreachable!() };
+        replay.reset(origin, side);
+        adds.into_iter().for_each(|(at, v)| replay.add(at, v));
+        replay.covariance();
+    }
+    let mut random = Random::new(1);
+    let whole = |z: i32| z.max(-i32::MAX);
+    for _ in 0..40 {
+        let origin = [coordinate(&mut random), coordinate(&mut random)].map(whole);
+        replay.reset(origin, side(&mut random));
+        for _ in 0..16 {
+            let (origin, side) = (replay.sums.origin, replay.sums.side.min(4));
+            replay.add(origin.map(|z| whole(pixel(&mut random, z, side))), addends(&mut random));
+        }
+        replay.covariance();
+    }
+    replay.lines.stored()
 }
 
 /// Ours through exports that copy the whole state in, and `add` and `reset` out again: side 0 is what that costs `covariance`.

@@ -44,6 +44,15 @@ fn compare(run: &mut Run) {
         |&(Count(w), Count(h), n)| grid::step(w, h, n),
     );
 
+    let keys = PASSES.into_iter().flat_map(|n| (1..=STEPS).map(move |s| (n, s)));
+    let holders: Vec<_> = run.once(keys).filter_map(holder).collect();
+    run.same(
+        "images with the most windows at their step",
+        holders.into_iter(),
+        |&(Count(w), Count(h), n, _)| (vuzgari_compare_windows(w, h, n), vuzgari_compare_needed(w, h) <= MOST),
+        |&(.., total)| (total, total <= MOST),
+    );
+
     let corners = [(4, 4), (4, SIDE), (SIDE, 4), (SIDE, SIDE), (16_056, 25), (15_887, 132)];
     let mut random = run.random("sides");
     let mut side = || {
@@ -64,6 +73,24 @@ fn compare(run: &mut Run) {
         |&(Count(w), Count(h))| vuzgari_compare_needed(w, h),
         |&(Count(w), Count(h))| needed(w, h),
     );
+}
+
+/// The most windows that an image can need memory for, as include/vuzgari.h promises.
+const MOST: usize = 33_754;
+
+/// Of all images whose pass has this W and this step, one with the most windows, and how many they are; none where there is no such
+/// image. A row has no fewer windows in a wider image, so the widest image of each height is enough. With r = (w - 4) % s a row whose
+/// first x is at most r has (w - 4) / s + 1 windows, and the others one less.
+fn holder((windows, s): (usize, usize)) -> Option<(Count<4>, Count<4>, usize, usize)> {
+    let firsts: Vec<u8> = (0..(SIDE - 3).div_ceil(s)).map(|j| grid::grid_row(SIDE, s, j).0 as u8).collect();
+    let widest = (4..=SIDE).map(|h| ((s * s * windows / h).min(SIDE), h));
+    let images = widest.filter(|(w, h)| *w >= 4 && w * h > (s - 1) * (s - 1) * windows);
+    let counted = images.map(|(w, h)| {
+        let (rows, longer) = ((h - 3).div_ceil(s), ((w - 4) % s) as u8);
+        let more: usize = firsts[..rows].chunks(255).map(|part| usize::from(part.iter().map(|&x| u8::from(x <= longer)).sum::<u8>())).sum();
+        (Count(w), Count(h), windows, rows * ((w - 4) / s) + more)
+    });
+    counted.max_by_key(|(.., total)| *total)
 }
 
 type Sides = (Count<4>, Count<4>);

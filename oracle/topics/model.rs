@@ -1,15 +1,15 @@
 //! The systematic model and the covariance model: document 01's numbers in their order, and what is accepted beside the original's.
 
-use super::{beside, random::*, Run, Topic, Value};
+use super::{beside, random::*, stored, stored::Lines, twins, Run, Stored, Topic, Value};
 use original::{
     refine::PositionCovariance,
     uncertainty::{knot, CovarianceModel, Knot, SystematicModel},
 };
 use std::{collections::BTreeMap, iter::repeat_with};
 
-pub const TOPIC: Topic = Topic { name: "model", gate: true, compare, store: None, speed: Some(speed) };
+pub const TOPIC: Topic = Topic { name: "model", gate: true, compare, store: Some(store), speed: Some(speed) };
 
-type Column = [f32; 16];
+pub type Column = [f32; 16];
 
 unsafe extern "C" {
     safe fn vuzgari_compare_at(
@@ -25,12 +25,12 @@ unsafe extern "C" {
 
 /// Knots, any at all, of which the first `count` are meant.
 #[derive(Clone)]
-struct Knots {
-    widths: Column,
-    gains: Column,
-    residuals: Column,
-    count: usize,
-    floor: f32,
+pub struct Knots {
+    pub widths: Column,
+    pub gains: Column,
+    pub residuals: Column,
+    pub count: usize,
+    pub floor: f32,
 }
 
 fn within(limit: f32, x: f32) -> bool {
@@ -158,19 +158,19 @@ fn of(c: [f32; 3]) -> PositionCovariance {
 }
 
 /// Knots, the noise part, an offset, a width and a grid.
-type Estimate = (Knots, [f32; 3], [f32; 2], Option<f32>, f32);
+pub type Estimate = (Knots, [f32; 3], [f32; 2], Option<f32>, f32);
 
 /// Knots and a width.
-type Place = (Knots, Option<f32>);
+pub type Place = (Knots, Option<f32>);
 
-fn ours_at((knots, width): &Place) -> (u32, [f32; 2]) {
+pub fn ours_at((knots, width): &Place) -> (u32, [f32; 2]) {
     let mut out = [f32::NAN; 2];
     let (w, known) = (width.unwrap_or(1.5), width.is_some());
     let number = vuzgari_compare_at(&knots.widths, &knots.gains, &knots.residuals, knots.count, knots.floor, known, w, &mut out);
     (number, out)
 }
 
-fn their_at((knots, width): &Place) -> (u32, [f32; 2]) {
+pub fn their_at((knots, width): &Place) -> (u32, [f32; 2]) {
     match knots.refusal() {
         0 => {
             let (gain, residual) = knots.original(|model| model.at(*width));
@@ -180,7 +180,7 @@ fn their_at((knots, width): &Place) -> (u32, [f32; 2]) {
     }
 }
 
-fn ours_model((knots, noise, offset, width, grid): &Estimate) -> (u32, [f32; 8]) {
+pub fn ours_model((knots, noise, offset, width, grid): &Estimate) -> (u32, [f32; 8]) {
     let mut out = [f32::NAN; 8];
     let w = width.unwrap_or(f32::from_bits(0x7fc0_1234));
     let number = vuzgari_compare_model(
@@ -189,7 +189,7 @@ fn ours_model((knots, noise, offset, width, grid): &Estimate) -> (u32, [f32; 8])
     (number, out)
 }
 
-fn their_model((knots, noise, offset, width, grid): &Estimate) -> (u32, [f32; 8]) {
+pub fn their_model((knots, noise, offset, width, grid): &Estimate) -> (u32, [f32; 8]) {
     let refused = |number| (number, [0.0; 8]);
     match knots.refusal() {
         0 => {}
@@ -205,7 +205,7 @@ fn their_model((knots, noise, offset, width, grid): &Estimate) -> (u32, [f32; 8]
 }
 
 /// The noise part, the systematic part, growth and sigma.
-type Level = ([f32; 3], [f32; 3], [f32; 2], f32);
+pub type Level = ([f32; 3], [f32; 3], [f32; 2], f32);
 
 fn at_level(ours: extern "C" fn(&[f32; 3], &[f32; 3], &[f32; 2], f32, &mut [f32; 3]) -> u32) -> impl Fn(&Level) -> (u32, [f32; 3]) {
     move |(noise, systematic, growth, sigma)| {
@@ -213,6 +213,14 @@ fn at_level(ours: extern "C" fn(&[f32; 3], &[f32; 3], &[f32; 2], f32, &mut [f32;
         let number = ours(noise, systematic, growth, *sigma, &mut out);
         (number, out)
     }
+}
+
+pub fn ours_total(level: &Level) -> (u32, [f32; 3]) {
+    at_level(vuzgari_compare_total)(level)
+}
+
+pub fn their_total(level: &Level) -> (u32, [f32; 3]) {
+    their_level(level, CovarianceModel::total)
 }
 
 fn level_model(&(noise, systematic, growth, _): &Level) -> CovarianceModel {
@@ -290,6 +298,81 @@ fn compare(run: &mut Run) {
     for ((what, number), n) in numbers {
         run.count(&format!("{what} answered {number}"), n);
     }
+}
+
+fn put_knots(lines: &mut Lines, knots: &Knots) {
+    let Knots { widths, gains, residuals, count, floor } = knots;
+    lines.put('s', &[*count as u64, stored::pattern(*floor)]);
+    for k in 0..16 {
+        let knot = [widths[k], gains[k], residuals[k]].map(stored::pattern);
+        if knot != [0; 3] {
+            lines.put('k', &[k as u64, knot[0], knot[1], knot[2]]);
+        }
+    }
+}
+
+fn put_width(width: &Option<f32>) -> [u64; 2] {
+    [width.is_some().into(), width.map_or(0, stored::pattern)]
+}
+
+fn call_at(lines: &mut Lines, place: &Place) {
+    let (number, figures) = their_at(place);
+    lines.call('a', &put_width(&place.1), &format!("at {number}{}", stored::shown(&figures)));
+}
+
+fn call_model(lines: &mut Lines, estimate: &Estimate) {
+    let (_, noise, offset, width, grid) = estimate;
+    let (number, figures) = their_model(estimate);
+    let given = [put_width(width).to_vec(), [&[*grid], &noise[..], &offset[..]].concat().into_iter().map(stored::pattern).collect()];
+    lines.call('m', &given.concat(), &format!("model {number}{}", stored::shown(&figures)));
+}
+
+fn call_level(lines: &mut Lines, letter: char, name: &str, level: &Level, figure: fn(&CovarianceModel, f32) -> PositionCovariance) {
+    let (noise, systematic, growth, sigma) = level;
+    let (number, figures) = their_level(level, figure);
+    let given: Vec<u64> = [&noise[..], systematic, growth, &[*sigma]].concat().into_iter().map(stored::pattern).collect();
+    lines.call(letter, &given, &format!("{name} {number}{}", stored::shown(&figures)));
+}
+
+/// Each twin, then seeded knots with widths and estimates, and seeded levels.
+fn store() -> Stored {
+    let mut lines = Lines::new(9);
+    for twin in ["knots", "model", "total"].into_iter().flat_map(twins::twins) {
+        match &twin.input {
+            twins::Input::Knots(place) => {
+                put_knots(&mut lines, &place.0);
+                call_at(&mut lines, place);
+            }
+            twins::Input::Model((knots, noise, offset, width, grid)) => {
+                // one knot is counted
+                let first = |column: &Column| std::array::from_fn(|k| if k == 0 { column[0] } else { 0.0 });
+                let knots = Knots { widths: first(&knots.widths), gains: first(&knots.gains), residuals: first(&knots.residuals), ..*knots };
+                put_knots(&mut lines, &knots);
+                call_model(&mut lines, &(knots, *noise, *offset, *width, *grid));
+            }
+            twins::Input::Total(level) => call_level(&mut lines, 't', "total", level, CovarianceModel::total),
+            _ => unreachable!(),
+        }
+    }
+    let mut random = Random::new(1);
+    for _ in 0..7 {
+        let knots = Knots::any(&mut random);
+        put_knots(&mut lines, &knots);
+        for _ in 0..3 {
+            let width = knots.width(&mut random);
+            call_at(&mut lines, &(knots.clone(), width));
+            let offset = [ranged(&mut random, 1000.0), ranged(&mut random, 1000.0)];
+            let grid = ranged(&mut random, 1000.0).abs();
+            call_model(&mut lines, &(knots.clone(), covariance(&mut random, 1e6), offset, width, grid));
+        }
+    }
+    for _ in 0..24 {
+        let growth = [ranged(&mut random, 1000.0), ranged(&mut random, 1000.0)];
+        let level = (covariance(&mut random, 1e6), covariance(&mut random, f32::MAX), growth, sigma(&mut random));
+        call_level(&mut lines, 'n', "noise_at", &level, CovarianceModel::noise_at);
+        call_level(&mut lines, 't', "total", &level, CovarianceModel::total);
+    }
+    lines.stored()
 }
 
 fn speed() {

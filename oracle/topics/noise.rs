@@ -64,10 +64,11 @@ fn needed(w: usize, h: usize) -> usize {
 /// Elements past the end of each slice that are looked at too.
 const PAST: usize = 16;
 
-/// A call on slices that hold other things before it, each with more memory behind it.
+/// A call on slices that hold other things before it, each with more memory behind it; what they hold after it by its bits.
 pub fn ours(pixels: &[u8], w: usize, h: usize, lent: Lent) -> Left {
     let ints: Vec<i32> = (0..lent.ints + PAST).map(|k| !(k as i32)).collect();
-    let floats: Vec<u32> = (0..lent.floats + PAST).map(|k| 0x7fa0_0001 ^ k as u32).collect();
+    // NaNs of either sign, quiet and signalling, with payloads of their own: what stays must stay bit for bit.
+    let floats: Vec<u32> = (1..=lent.floats + PAST).map(|k| 0x7f80_0001 | (k as u32).wrapping_mul(0x9e37_79b9) & 0x807f_ffff).collect();
     let out: Vec<u8> = (0..lent.out + PAST).map(|k| 0xa5 ^ k as u8).collect();
     let (mut i, mut o, before) = (ints.clone(), out.clone(), pixels.to_vec());
     let mut f: Vec<f32> = floats.iter().map(|&bits| f32::from_bits(bits)).collect();

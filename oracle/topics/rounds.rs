@@ -26,9 +26,9 @@ unsafe extern "C" {
 
 /// A band's gates and squared outputs, as many of each.
 #[derive(Clone, Default)]
-struct Windows {
-    gate: Vec<f32>,
-    op: Vec<f32>,
+pub struct Windows {
+    pub gate: Vec<f32>,
+    pub op: Vec<f32>,
 }
 
 impl Windows {
@@ -120,13 +120,13 @@ fn their_variance(Windows { gate, op }: &Windows, image_var: f64) -> (usize, f64
 
 /// Four bands one after the other.
 #[derive(Clone)]
-struct Sample {
+pub struct Sample {
     windows: Windows,
     ends: [usize; 3],
 }
 
 impl Sample {
-    fn new(bands: &[Windows; 4]) -> Self {
+    pub fn new(bands: &[Windows; 4]) -> Self {
         let mut windows = Windows::default();
         let mut ends = [0; 4];
         for (end, Windows { gate, op }) in ends.iter_mut().zip(bands) {
@@ -138,7 +138,7 @@ impl Sample {
         Sample { windows, ends: [e1, e2, e3] }
     }
 
-    fn bands(&self) -> [Windows; 4] {
+    pub fn bands(&self) -> [Windows; 4] {
         let [e1, e2, e3] = self.ends;
         [0..e1, e1..e2, e2..e3, e3..self.windows.gate.len()].map(|band| self.windows.part(band))
     }
@@ -148,6 +148,17 @@ impl Sample {
         let buf = [&gate[..], &[0.0], op, &[0.0]].concat();
         let [e1, e2, e3] = self.ends;
         counted::Sample { buf, kept: gate.len(), start: [0, e1, e2, e3, gate.len()] }
+    }
+
+    /// Number, sigma and rounds.
+    pub fn our_sigma(&self) -> (u32, f32, usize) {
+        (self.ours(vuzgari_compare_noise_number), self.ours(vuzgari_compare_noise_sigma), self.ours(vuzgari_compare_noise_rounds))
+    }
+
+    pub fn their_sigma(&self) -> (u32, f32, usize) {
+        let original = self.original();
+        let (sigma, counts) = counts::counted(|| counted::noise_sigma(&original));
+        (counts.reason, sigma.unwrap_or(0.0), counts.rounds)
     }
 
     fn ours<R>(&self, call: unsafe extern "C" fn(Part, usize, Part, usize, usize, usize, usize) -> R) -> R {
@@ -407,17 +418,11 @@ fn noise_sigma(run: &mut Run) {
     let mut random = run.random("noise_sigma");
     let samples: Vec<Sample> = (0..run.size(GATE)).map(|_| sample(&mut random)).collect();
     let mut numbers = [0; 8];
-    run.same(
-        "noise_sigma",
-        samples.into_iter(),
-        |s| (s.ours(vuzgari_compare_noise_number), s.ours(vuzgari_compare_noise_sigma), s.ours(vuzgari_compare_noise_rounds)),
-        |s| {
-            let original = s.original();
-            let (sigma, counts) = counts::counted(|| counted::noise_sigma(&original));
-            numbers[counts.reason as usize] += 1;
-            (counts.reason, sigma.unwrap_or(0.0), counts.rounds)
-        },
-    );
+    run.same("noise_sigma", samples.into_iter(), Sample::our_sigma, |s| {
+        let answer = s.their_sigma();
+        numbers[answer.0 as usize] += 1;
+        answer
+    });
     for number in [0, 5, 6, 7] {
         run.count(&format!("noise_sigma that answers {number}"), numbers[number]);
     }

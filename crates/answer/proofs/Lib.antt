@@ -1,2 +1,1 @@
 pub mod Rowing
-pub mod Cases

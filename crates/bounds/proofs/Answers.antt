@@ -6,7 +6,7 @@ use mathlib.Core.List.{List}
 use Prim.Native.Nat.{ℕ, suc, _+_, _-_, _*_, _^_, _≤_, _<_, min}
 use native.Mathlib.Nat.{le-trans, le-of-eq, div-lt-iff-lt-mul}
 use native.Mathlib.Omega.{arith}
-use borrow.Author.Tests.{eqb-true, eqb-false}
+use borrow.Author.Tests.{eqb-true}
 use lib.Dec.{T, eqb, lit≤, lit<}
 use lib.ListN.{length, getD, length-map}
 use lib.IntN.{ℤ, pos}
@@ -32,9 +32,9 @@ use Rattle.milli.specs.Thousandths.{thousandths, milliOf}
 use Rattle.pass.specs.Pass.{startsBy, noiseIn, passOf}
 use Rattle.answer.specs.declared.Answer.{Answer}
 use Rattle.noise.specs.Answers.{endingIn, decided}
-use Rattle.noise.specs.Refusals.{shortOf, refusalOf}
-use Rattle.noise.specs.Call.{refused, measured, clearedInts, clearedFloats, noiseOf, Left}
-use Rattle.noise.proofs.Causes.{above-w, above-h, unlike, below-w, below-h, sides}
+use Rattle.noise.specs.Refusals.{refusalOf}
+use Rattle.noise.specs.Call.{refused, measured, noiseOf}
+use Rattle.noise.proofs.Causes.{allowed}
 use Rattle.bounds.specs.Sigma.{sigmaMost, SigmaIsNumber}
 use Rattle.bounds.proofs.Constants.{SigmaBounded, holds-sigma}
 use Rattle.bounds.proofs.Outputs.{Small, figures-small, outputs}
@@ -94,32 +94,6 @@ refused-sigma : (number : ℕ) → SigmaIsNumber (refused number)
 unfolding ofBits fits
 refused-sigma number = number-law (refused number) (tt, zero-bounded binary32 sigmaMost) (omega arith)
 
--- what nothing refuses has allowed sides
-allowed : (n w h : ℕ) (short : Bool) → refusalOf n w h short ≡ 0 → Sides w h
-allowed n w h short e = elim (le-or-lt w 16384) [
-  | inr l ↦ absurd (no (sym (above-w n w h short l) ∙ e))
-  | inl a ↦ elim (le-or-lt h 16384) [
-    | inr l ↦ absurd (no (sym (above-h n w h short a l) ∙ e))
-    | inl b ↦ elim (same (eqb n (w * h)) refl) [
-      | inr d ↦ absurd (no (sym (unlike n w h a b short d) ∙ e))
-      | inl c ↦ elim (le-or-lt 4 w) [
-        | inr l ↦ absurd (no (sym (below-w n w h a b c short l) ∙ e))
-        | inl d ↦ elim (le-or-lt 4 h) [
-          | inr l ↦ absurd (no (sym (below-h n w h a b c short d l) ∙ e))
-          | inl g ↦ sides n w h a b c d g
-        ]
-      ]
-    ]
-  ]
-]
-  where
-    no : {k : ℕ} → suc k ≡ 0 → ⊥
-    no {k} e = omega arith
-
-    same : (b : Bool) → eqb n (w * h) ≡ b → (n ≡ w * h) ⊎ (n ≡ w * h → ⊥)
-    same true e = inl (eqb-true n (w * h) e)
-    same false e = inr (eqb-false n (w * h) e)
-
 -- ---- an image of pixels 0 to 255
 module _ (img : List ℕ) (bytes : (i : ℕ) → getD img i 0 ≤ 255) (w h : ℕ) where
   pub measured-sigma : Sides w h → SigmaIsNumber (measured img w h)
@@ -134,14 +108,14 @@ module _ (img : List ℕ) (bytes : (i : ℕ) → getD img i 0 ≤ 255) (w h : �
       each windows some =
           ending-sigma (figuresOf img w h windows) (le-trans (le-of-eq (figures-long img w h windows)) (le-trans (total-most w h windows some) (few w h sides))) (figures-small img bytes w h windows)
 
-  -- the call, whatever the sides and the work slices are
-  pub sigma-is-number : (ints : List ℤ) (floats : List Float) → SigmaIsNumber (noiseOf img w h ints floats .answer)
+  -- the call, whatever the sides are, and whether memory is too short
+  pub sigma-is-number : (short : Bool) → SigmaIsNumber (noiseOf img w h short)
   unfolding noiseOf
-  sigma-is-number ints floats = go (eqb number 0) refl
+  sigma-is-number short = go (eqb number 0) refl
     where
       number : ℕ
-      number = refusalOf (length img) w h (shortOf w h (length ints) (length floats))
+      number = refusalOf (length img) w h short
 
-      go : (b : Bool) → eqb number 0 ≡ b → SigmaIsNumber (cond {A = Left} b (record { answer = measured img w h; ints = clearedInts (neededOf w h) ints; floats = clearedFloats (neededOf w h) floats }) (record { answer = refused number; ints = ints; floats = floats }) .answer)
-      go true e = measured-sigma (allowed (length img) w h (shortOf w h (length ints) (length floats)) (eqb-true number 0 e))
+      go : (b : Bool) → eqb number 0 ≡ b → SigmaIsNumber (cond b (measured img w h) (refused number))
+      go true e = measured-sigma (allowed (length img) w h short (eqb-true number 0 e))
       go false e = refused-sigma number

@@ -3,7 +3,7 @@ ghost use mathlib.Core.Path.{_≡_};
 ghost use Prim.Native.Nat.{_≤_};
 ghost use lib.ListN.{length};
 ghost use lib.IntN.{pos};
-ghost use lib.Ieee.{binary32, ofBits};
+ghost use Rattle.ieee.specs.Numbers.{plusZero};
 ghost use Rattle.clear.specs.Cleared.{cleared};
 
 // The first n elements become 0. All others stay.
@@ -21,7 +21,7 @@ pub fn clear_ints(s: &mut [i32], n: usize)
 // The first n elements become plus zero. All others stay.
 pub fn clear_floats(s: &mut [f32], n: usize)
     requires { ⌜ n ≤ length (now s) ⌝ }
-    ensures { λ _. ⌜ now (s .exit) ≡ cleared (ofBits binary32 0) n (now (s .entry)) ⌝ }
+    ensures { λ _. ⌜ now (s .exit) ≡ cleared plusZero n (now (s .entry)) ⌝ }
 {
     let mut k = 0;
     while k < n {

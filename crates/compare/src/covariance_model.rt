@@ -1,20 +1,20 @@
 // The covariance model. Knots, covariances, offsets and growths are lent by their floats; the figures go to `out`.
 ghost use mathlib.Core.Path.{_≡_};
 ghost use Rattle.model.specs.Knots.{table, atOf};
-ghost use Rattle.covariance.specs.Noise.{noiseAt, total};
+ghost use Rattle.covariance.specs.Noise.{noiseAt, totalAt};
 ghost use Rattle.model.specs.Model.{modelOf};
-ghost use Rattle.refine.specs.Covariance.{number, figures};
-ghost use Rattle.compare.specs.Lent.{three, entries};
-ghost use Rattle.compare.specs.Models.{wide, whole, gained, Told};
+ghost use Rattle.compare.specs.Lent.{covarianceFrom, Told};
+ghost use Rattle.compare.specs.Models.{widthFrom, modelFrom, ToldAt, ToldModel};
 use crate::covariances::covariance_of;
 use crate::covariances::told;
 use covariance::CovarianceModel;
 use knots::Width;
+use model::At;
 use model::Modelled;
 use model::SystematicModel;
 
 fn width_of(known: bool, w: f32) -> Width
-    ensures { λ r. ⌜ r ≡ wide known w ⌝ }
+    ensures { λ r. ⌜ r ≡ widthFrom known w ⌝ }
 {
     if known {
         Width::Known(w)
@@ -34,7 +34,9 @@ pub extern "C" fn vuzgari_compare_at(
     w: f32,
     out: &mut [f32; 2],
 ) -> u32
-    ensures { λ r. ⌜ (r ≡ atOf (table count floor (now (widths .entry)) (now (gains .entry)) (now (residuals .entry))) (wide known w) .number) × (now (out .exit) ≡ gained (atOf (table count floor (now (widths .entry)) (now (gains .entry)) (now (residuals .entry))) (wide known w))) ⌝ }
+    ensures { λ r. ⌜ ToldAt
+        (atOf (table count floor (now (widths .entry)) (now (gains .entry)) (now (residuals .entry))) (widthFrom known w))
+        r (now (out .exit)) ⌝ }
 {
     let a = *widths;
     let b = *gains;
@@ -46,9 +48,23 @@ pub extern "C" fn vuzgari_compare_at(
         count,
         floor,
     };
-    let found = s.at(width_of(known, w));
-    *out = [found.gain, found.residual];
-    found.number
+    lay_at(s.at(width_of(known, w)), out)
+}
+
+// The number, gain and residual.
+fn lay_at(answer: At, out: &mut [f32; 2]) -> u32
+    ensures { λ r. ⌜ ToldAt answer r (now (out .exit)) ⌝ }
+{
+    match answer {
+        At::Given(gain, residual) => {
+            *out = [gain, residual];
+            0
+        }
+        At::Refused(n) => {
+            *out = [0.0, 0.0];
+            n
+        }
+    }
 }
 
 #[no_mangle]
@@ -65,7 +81,10 @@ pub extern "C" fn vuzgari_compare_model(
     grid: f32,
     out: &mut [f32; 8],
 ) -> u32
-    ensures { λ r. ⌜ Told (modelOf (table count floor (now (widths .entry)) (now (gains .entry)) (now (residuals .entry))) (three (now (noise .entry))) (now (offset .entry)) (wide known w) grid) r (now (out .exit)) ⌝ }
+    ensures { λ r. ⌜ ToldModel
+        (modelOf (table count floor (now (widths .entry)) (now (gains .entry)) (now (residuals .entry)))
+        (covarianceFrom (now (noise .entry))) (now (offset .entry)) (widthFrom known w) grid)
+        r (now (out .exit)) ⌝ }
 {
     let a = *widths;
     let b = *gains;
@@ -86,7 +105,7 @@ pub extern "C" fn vuzgari_compare_model(
 
 // The number, and the model's eight floats.
 fn lay(answer: Modelled, out: &mut [f32; 8]) -> u32
-    ensures { λ r. ⌜ Told answer r (now (out .exit)) ⌝ }
+    ensures { λ r. ⌜ ToldModel answer r (now (out .exit)) ⌝ }
 {
     let m = answer.model;
     let d = m.noise;
@@ -97,7 +116,7 @@ fn lay(answer: Modelled, out: &mut [f32; 8]) -> u32
 }
 
 fn model_of(noise: &[f32; 3], systematic: &[f32; 3], growth: &[f32; 2]) -> CovarianceModel
-    ensures { λ r. ⌜ r ≡ whole (now (noise .entry)) (now (systematic .entry)) (now (growth .entry)) ⌝ }
+    ensures { λ r. ⌜ r ≡ modelFrom (now (noise .entry)) (now (systematic .entry)) (now (growth .entry)) ⌝ }
 {
     let g = *growth;
     CovarianceModel {
@@ -115,7 +134,9 @@ pub extern "C" fn vuzgari_compare_noise_at(
     sigma: f32,
     out: &mut [f32; 3],
 ) -> u32
-    ensures { λ r. ⌜ (r ≡ number (noiseAt (whole (now (noise .entry)) (now (systematic .entry)) (now (growth .entry))) sigma)) × (now (out .exit) ≡ entries (figures (noiseAt (whole (now (noise .entry)) (now (systematic .entry)) (now (growth .entry))) sigma))) ⌝ }
+    ensures { λ r. ⌜ Told
+        (noiseAt (modelFrom (now (noise .entry)) (now (systematic .entry)) (now (growth .entry))) sigma)
+        r (now (out .exit)) ⌝ }
 {
     told(model_of(noise, systematic, growth).noise_at(sigma), out)
 }
@@ -128,7 +149,9 @@ pub extern "C" fn vuzgari_compare_total(
     sigma: f32,
     out: &mut [f32; 3],
 ) -> u32
-    ensures { λ r. ⌜ (r ≡ number (total (whole (now (noise .entry)) (now (systematic .entry)) (now (growth .entry))) sigma)) × (now (out .exit) ≡ entries (figures (total (whole (now (noise .entry)) (now (systematic .entry)) (now (growth .entry))) sigma))) ⌝ }
+    ensures { λ r. ⌜ Told
+        (totalAt (modelFrom (now (noise .entry)) (now (systematic .entry)) (now (growth .entry))) sigma)
+        r (now (out .exit)) ⌝ }
 {
     told(model_of(noise, systematic, growth).total(sigma), out)
 }

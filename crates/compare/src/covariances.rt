@@ -1,12 +1,11 @@
 // What an answer is to C: its number, and its figures in a lent slice.
 ghost use mathlib.Core.Path.{_≡_};
-ghost use Rattle.refine.specs.Covariance.{number, figures};
-ghost use Rattle.compare.specs.Lent.{three, entries};
+ghost use Rattle.compare.specs.Lent.{covarianceFrom, Told};
 use refine::Judged;
 use refine::PositionCovariance;
 
 pub fn told(answer: Judged, out: &mut [f32; 3]) -> u32
-    ensures { λ r. ⌜ (r ≡ number answer) × (now (out .exit) ≡ entries (figures answer)) ⌝ }
+    ensures { λ r. ⌜ Told answer r (now (out .exit)) ⌝ }
 {
     match answer {
         Judged::Covariance(c) => {
@@ -21,7 +20,7 @@ pub fn told(answer: Judged, out: &mut [f32; 3]) -> u32
 }
 
 pub fn covariance_of(floats: &[f32; 3]) -> PositionCovariance
-    ensures { λ r. ⌜ r ≡ three (now (floats .entry)) ⌝ }
+    ensures { λ r. ⌜ r ≡ covarianceFrom (now (floats .entry)) ⌝ }
 {
     PositionCovariance::new(floats[0], floats[1], floats[2])
 }

@@ -2,8 +2,7 @@
 ghost use mathlib.Core.Path.{_≡_};
 ghost use mathlib.Core.List.{[], _∷_};
 ghost use Rattle.gradients.specs.Gradients.{resetOf, addOf, covarianceOf};
-ghost use Rattle.refine.specs.Covariance.{number, figures};
-ghost use Rattle.compare.specs.Lent.{state, Left, entries};
+ghost use Rattle.compare.specs.Lent.{state, HandedBack, Told};
 use crate::covariances::told;
 use gradients::Handed;
 use gradients::PixelGradients;
@@ -15,7 +14,7 @@ fn leave(
     gx: &mut [f32; 1024],
     gy: &mut [f32; 1024],
 ) -> u32
-    ensures { λ r. ⌜ Left h r (now (origin .exit)) (now (side .exit)) (now (gx .exit)) (now (gy .exit)) ⌝ }
+    ensures { λ r. ⌜ HandedBack h r (now (origin .exit)) (now (side .exit)) (now (gx .exit)) (now (gy .exit)) ⌝ }
 {
     let s = h.state;
     let o = s.origin;
@@ -38,7 +37,9 @@ pub extern "C" fn vuzgari_compare_reset(
     y: i32,
     n: usize,
 ) -> u32
-    ensures { λ r. ⌜ Left (resetOf (state (now (origin .entry)) (now (side .entry)) (now (gx .entry)) (now (gy .entry))) (x ∷ y ∷ []) n) r (now (origin .exit)) (now (side .exit)) (now (gx .exit)) (now (gy .exit)) ⌝ }
+    ensures { λ r. ⌜ HandedBack
+        (resetOf (state (now (origin .entry)) (now (side .entry)) (now (gx .entry)) (now (gy .entry))) (x ∷ y ∷ []) n)
+        r (now (origin .exit)) (now (side .exit)) (now (gx .exit)) (now (gy .exit)) ⌝ }
 {
     let o = *origin;
     let m = *side;
@@ -64,7 +65,9 @@ pub extern "C" fn vuzgari_compare_add(
     vx: f32,
     vy: f32,
 ) -> u32
-    ensures { λ r. ⌜ Left (addOf (state (now (origin .entry)) (now (side .entry)) (now (gx .entry)) (now (gy .entry))) x y (vx ∷ vy ∷ [])) r (now (origin .exit)) (now (side .exit)) (now (gx .exit)) (now (gy .exit)) ⌝ }
+    ensures { λ r. ⌜ HandedBack
+        (addOf (state (now (origin .entry)) (now (side .entry)) (now (gx .entry)) (now (gy .entry))) x y (vx ∷ vy ∷ []))
+        r (now (origin .exit)) (now (side .exit)) (now (gx .exit)) (now (gy .exit)) ⌝ }
 {
     let o = *origin;
     let m = *side;
@@ -88,7 +91,9 @@ pub extern "C" fn vuzgari_compare_covariance(
     gy: &[f32; 1024],
     out: &mut [f32; 3],
 ) -> u32
-    ensures { λ r. ⌜ (r ≡ number (covarianceOf (state (now (origin .entry)) side (now (gx .entry)) (now (gy .entry))))) × (now (out .exit) ≡ entries (figures (covarianceOf (state (now (origin .entry)) side (now (gx .entry)) (now (gy .entry)))))) ⌝ }
+    ensures { λ r. ⌜ Told
+        (covarianceOf (state (now (origin .entry)) side (now (gx .entry)) (now (gy .entry))))
+        r (now (out .exit)) ⌝ }
 {
     let o = *origin;
     let a = *gx;

@@ -1,3 +1,4 @@
 pub mod Formulas
 pub mod Laws
+pub mod Examples
 pub mod Roots

@@ -5,6 +5,7 @@ use Prim.Native.Nat.{ℕ, _*_, _^_, _<_}
 use native.Mathlib.Nat.{mul-comm}
 use native.Mathlib.Omega.{arith}
 use lib.Dec.{T, eqb}
+use lib.IntN.{pos}
 use lib.Ieee.{Float, nan, inf, fin, binary32, up, down, eq, fits, units, size}
 use lib.Ieee.Fits.{down-pos}
 use lib.Ieee.Exact.{HasValue}
@@ -12,7 +13,9 @@ use borrow.Author.Tests.{eqb-true}
 use Rattle.refine.proofs.Refusing.{and-left, and-right}
 use Rattle.ieee.specs.Sqrt.{sqrt}
 use Rattle.ieee.proofs.Grid.{same-value}
-use Rattle.ranges.specs.Arith.{one}
+
+abbrev one : Float
+one = fin false 1 (pos 0)
 
 sqrt-one : one ≡ sqrt binary32 one
 unfolding sqrt units size

@@ -2,8 +2,7 @@
 ghost use mathlib.Core.Path.{_≡_};
 ghost use lib.Ieee.{binary32};
 ghost use Rattle.ieee.specs.Sqrt.{sqrt};
-ghost use Rattle.covariance.specs.Noise as Noise;
-ghost use Rattle.covariance.specs.Noise.{variance, grown, scaled, noise, noiseAt};
+ghost use Rattle.covariance.specs.Noise.{noiseVariance, grown, scaled, noiseTerm, modelInRange, noiseAt, totalAt};
 use refine::Judged;
 use refine::PositionCovariance;
 
@@ -21,7 +20,7 @@ pub struct CovarianceModel {
 }
 
 fn variance_of(sigma: f32) -> f32
-    ensures { λ r. ⌜ r ≡ variance sigma ⌝ }
+    ensures { λ r. ⌜ r ≡ noiseVariance sigma ⌝ }
 {
     // false of a NaN too
     let square = sigma * sigma;
@@ -60,8 +59,8 @@ fn scaled_by(c: PositionCovariance, var: f32, f0: f32, f1: f32) -> PositionCovar
 
 impl CovarianceModel {
     // Whether all of the model and sigma are in their ranges, used or not.
-    fn ranged(self, sigma: f32) -> bool
-        ensures { λ r. ⌜ r ≡ Noise.ranged self sigma ⌝ }
+    fn in_range(self, sigma: f32) -> bool
+        ensures { λ r. ⌜ r ≡ modelInRange self sigma ⌝ }
     {
         let growth = self.growth;
         let noise = self.noise;
@@ -69,12 +68,12 @@ impl CovarianceModel {
         ranges::all_within(noise)
             & ranges::all_finite(systematic)
             & ranges::both_within(growth)
-            & ranges::is_level(sigma)
+            & ranges::sigma_in_range(sigma)
     }
 
     // The noise term of a model and a `sigma` in any range.
     fn noise_term(self, sigma: f32) -> PositionCovariance
-        ensures { λ r. ⌜ r ≡ noise self (variance sigma) ⌝ }
+        ensures { λ r. ⌜ r ≡ noiseTerm self sigma ⌝ }
     {
         let noise = self.noise;
         let growth = self.growth;
@@ -88,7 +87,7 @@ impl CovarianceModel {
     pub fn noise_at(self, sigma: f32) -> Judged
         ensures { λ r. ⌜ r ≡ noiseAt self sigma ⌝ }
     {
-        if !self.ranged(sigma) {
+        if !self.in_range(sigma) {
             return Judged::Refused(12);
         }
         Judged::Covariance(self.noise_term(sigma))
@@ -96,9 +95,9 @@ impl CovarianceModel {
 
     // The model with an image noise of `sigma` grey levels: the noise term and the systematic one.
     pub fn total(self, sigma: f32) -> Judged
-        ensures { λ r. ⌜ r ≡ Noise.total self sigma ⌝ }
+        ensures { λ r. ⌜ r ≡ totalAt self sigma ⌝ }
     {
-        if !self.ranged(sigma) {
+        if !self.in_range(sigma) {
             return Judged::Refused(12);
         }
         let part = self.systematic;

@@ -6,7 +6,8 @@ use native.Mathlib.Omega.{arith}
 use lib.ListN.{getD}
 use lib.Ieee.{Float, nan}
 use Rattle.disk.specs.Rows.{read}
-use Rattle.disk.specs.Smoothing.{binomial, along, down, across}
+use Rattle.disk.specs.Smoothing.{binomial, down, across}
+use Rattle.disk.specs.Strided.{strided}
 
 pub here : (l : List Float) (k : ℕ) → getD l k nan ≡ read l (k / 17) (k % 17)
 here l k = ap (λ (i : ℕ). getD l i nan) (go k)
@@ -42,14 +43,14 @@ pub five : {a b c d e a′ b′ c′ d′ e′ : Float} → a ≡ a′ → b ≡
 five {a} {b} {c} {d} {e} {a′} {b′} {c′} {d′} {e′} p q r s t = λ i. binomial (p i) (q i) (r i) (s i) (t i)
 
 -- five values a row apart are those of a column, five one place apart those of a row
-pub along-column : (l : List Float) (k : ℕ) {r : Float} → r ≡ along l k 17 → r ≡ down (read l) (k / 17) (k % 17)
-along-column l k e = e ∙ same
+pub strided-column : (l : List Float) (k : ℕ) {r : Float} → r ≡ strided l k 17 → r ≡ down (read l) (k / 17) (k % 17)
+strided-column l k e = e ∙ same
   where
-    same : along l k 17 ≡ down (read l) (k / 17) (k % 17)
+    same : strided l k 17 ≡ down (read l) (k / 17) (k % 17)
     same = five (here l k) (below l k 1) (below l k 2) (below l k 3) (below l k 4)
 
-pub along-row : (l : List Float) (k : ℕ) {r : Float} → r ≡ along l k 1 → r ≡ across (read l) (k / 17) (k % 17)
-along-row l k e = e ∙ same
+pub strided-row : (l : List Float) (k : ℕ) {r : Float} → r ≡ strided l k 1 → r ≡ across (read l) (k / 17) (k % 17)
+strided-row l k e = e ∙ same
   where
-    same : along l k 1 ≡ across (read l) (k / 17) (k % 17)
+    same : strided l k 1 ≡ across (read l) (k / 17) (k % 17)
     same = five (here l k) (right l k 1) (right l k 2) (right l k 3) (right l k 4)

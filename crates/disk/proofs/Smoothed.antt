@@ -9,13 +9,14 @@ use lib.Dec.{T}
 use lib.ListN.{length, getD, length-map}
 use lib.Ieee.{Float, nan, binary32, add, sub, mul, isNan}
 use lib.Ieee.Exact.{HasValue}
-use Rattle.levels.specs.Whole.{whole, Upto, AllUpto}
+use Rattle.ieee.specs.Numbers.{f32Of}
+use Rattle.levels.specs.Whole.{Upto, AllUpto}
 use Rattle.levels.specs.Clear.{clear, AllClear}
-use Rattle.levels.specs.Kept.{kept}
-use Rattle.levels.specs.Levels.{total}
+use Rattle.levels.specs.Filtered.{filtered}
+use Rattle.levels.specs.Levels.{summed}
 use Rattle.levels.proofs.Folds.{getD-map}
-use Rattle.levels.proofs.Sums.{addUp, total-exact}
-use Rattle.levels.proofs.Largests.{all-clear}
+use Rattle.levels.proofs.Sums.{addUp, summed-exact}
+use Rattle.levels.proofs.Clears.{all-clear}
 use Rattle.levels.proofs.Wholes.{whole-value, add-whole, mul-whole, sub-plain, square-clear, add-clear}
 use Rattle.disk.specs.Smoothing.{binomial, down, smoothed}
 use Rattle.disk.specs.Disk.{disk}
@@ -34,13 +35,13 @@ binomial-upto n {a} {b} {c} {d} {e} h p q r s t = record {
     bound a b c d e n p q r s t = omega arith
 
     exact : (a b c d e n : ℕ) → 16 * n ≤ 2 ^ 24 → a ≤ n → b ≤ n → c ≤ n → d ≤ n → e ≤ n
-        → binomial (whole a) (whole b) (whole c) (whole d) (whole e) ≡ whole (a + e + 4 * (b + d) + 6 * c)
+        → binomial (f32Of a) (f32Of b) (f32Of c) (f32Of d) (f32Of e) ≡ f32Of (a + e + 4 * (b + d) + 6 * c)
     exact a b c d e n h p q r s t =
-        ap (λ (x : Float). add binary32 (add binary32 x (mul binary32 (whole 4) (add binary32 (whole b) (whole d)))) (mul binary32 (whole 6) (whole c))) (add-whole binary32 a e (omega arith) (omega arith))
-        ∙ ap (λ (x : Float). add binary32 (add binary32 (whole (a + e)) (mul binary32 (whole 4) x)) (mul binary32 (whole 6) (whole c))) (add-whole binary32 b d (omega arith) (omega arith))
-        ∙ ap (λ (x : Float). add binary32 (add binary32 (whole (a + e)) x) (mul binary32 (whole 6) (whole c))) (mul-whole binary32 4 (b + d) (omega arith) (omega arith))
-        ∙ ap (λ (x : Float). add binary32 x (mul binary32 (whole 6) (whole c))) (add-whole binary32 (a + e) (4 * (b + d)) (omega arith) (omega arith))
-        ∙ ap (λ (x : Float). add binary32 (whole (a + e + 4 * (b + d))) x) (mul-whole binary32 6 c (omega arith) (omega arith))
+        ap (λ (x : Float). add binary32 (add binary32 x (mul binary32 (f32Of 4) (add binary32 (f32Of b) (f32Of d)))) (mul binary32 (f32Of 6) (f32Of c))) (add-whole binary32 a e (omega arith) (omega arith))
+        ∙ ap (λ (x : Float). add binary32 (add binary32 (f32Of (a + e)) (mul binary32 (f32Of 4) x)) (mul binary32 (f32Of 6) (f32Of c))) (add-whole binary32 b d (omega arith) (omega arith))
+        ∙ ap (λ (x : Float). add binary32 (add binary32 (f32Of (a + e)) x) (mul binary32 (f32Of 6) (f32Of c))) (mul-whole binary32 4 (b + d) (omega arith) (omega arith))
+        ∙ ap (λ (x : Float). add binary32 x (mul binary32 (f32Of 6) (f32Of c))) (add-whole binary32 (a + e) (4 * (b + d)) (omega arith) (omega arith))
+        ∙ ap (λ (x : Float). add binary32 (f32Of (a + e + 4 * (b + d))) x) (mul-whole binary32 6 c (omega arith) (omega arith))
         ∙ add-whole binary32 (a + e + 4 * (b + d)) (6 * c) (omega arith) (omega arith)
 
 pub smooth-upto : (t : ℕ → ℕ → Float) → ((y x : ℕ) → y ≤ 16 → x ≤ 16 → Upto 255 (t y x)) → (y x : ℕ) → y ≤ 12 → x ≤ 12 → Upto 65280 (smoothed t y x)
@@ -71,24 +72,24 @@ gradients-clear s h = all-clear (gradients s) (λ m l. at m (omega (arith, l, le
 
 -- ---- the values that a level is the mean of add up to less than 2 ^ 24, so their f32 sum is exact in any order
 
-pub record Summed (l : List Float) : Type 0 where
+pub record Numbers (l : List Float) : Type 0 where
   pub numbers : List ℕ
-  pub are : l ≡ map whole numbers
+  pub are : l ≡ map f32Of numbers
   pub few : addUp numbers ≤ length l * 65280
 
-summed : (p : Float → Bool) (l : List Float) → ((k : ℕ) → k < length l → Upto 65280 (getD l k nan)) → Summed (kept p l)
-summed p [] h = record { numbers = []; are = refl; few = omega arith }
-summed p (x ∷ l) h = go (p x) (summed p l (λ k g. h (suc k) (omega arith))) (h 0 (omega arith))
+as-numbers : (p : Float → Bool) (l : List Float) → ((k : ℕ) → k < length l → Upto 65280 (getD l k nan)) → Numbers (filtered p l)
+as-numbers p [] h = record { numbers = []; are = refl; few = omega arith }
+as-numbers p (x ∷ l) h = go (p x) (as-numbers p l (λ k g. h (suc k) (omega arith))) (h 0 (omega arith))
   where
-    go : (t : Bool) → Summed (kept p l) → Upto 65280 x → Summed (cond t (x ∷ kept p l) (kept p l))
+    go : (t : Bool) → Numbers (filtered p l) → Upto 65280 x → Numbers (cond t (x ∷ filtered p l) (filtered p l))
     go true s u = record { numbers = u .number ∷ s .numbers; are = λ i. u .is i ∷ s .are i; few = omega (arith, u .small, s .few) }
     go false s u = s
 
-kept-few : (p : Float → Bool) (l : List Float) → length (kept p l) ≤ length l
-kept-few p [] = omega arith
-kept-few p (x ∷ l) = go (p x) (kept-few p l)
+filtered-few : (p : Float → Bool) (l : List Float) → length (filtered p l) ≤ length l
+filtered-few p [] = omega arith
+filtered-few p (x ∷ l) = go (p x) (filtered-few p l)
   where
-    go : (t : Bool) → length (kept p l) ≤ length l → length (cond t (x ∷ kept p l) (kept p l)) ≤ suc (length l)
+    go : (t : Bool) → length (filtered p l) ≤ length l → length (cond t (x ∷ filtered p l) (filtered p l)) ≤ suc (length l)
     go true h = omega arith
     go false h = omega arith
 
@@ -101,9 +102,9 @@ values-upto s h = record { each = at; long = length-map disk (λ k. s (k / 17) (
         subst (λ (z : Float). Upto 65280 z) (sym (getD-map (λ k. s (k / 17) (k % 17)) 0 nan disk m (omega (arith, disk-long)))) (h (getD disk m 0 / 17) (getD disk m 0 % 17) (omega arith) (omega arith))
 
 pub sums-exact : (s : ℕ → ℕ → Float) → ((y x : ℕ) → y ≤ 12 → x ≤ 12 → Upto 65280 (s y x)) → (p : Float → Bool)
-    → (numbers : List ℕ) × (kept p (values s) ≡ map whole numbers) × (addUp numbers ≤ 2 ^ 24) × (total (kept p (values s)) ≡ whole (addUp numbers))
+    → (numbers : List ℕ) × (filtered p (values s) ≡ map f32Of numbers) × (addUp numbers ≤ 2 ^ 24) × (summed (filtered p (values s)) ≡ f32Of (addUp numbers))
 sums-exact s h p =
     let v = values-upto s h in
-    let r = summed p (values s) (λ k g. v .each k (omega (arith, g, v .long))) in
-    let few : addUp (r .numbers) ≤ 2 ^ 24 = omega (arith, r .few, mul-le-mul-right 65280 (kept-few p (values s)), v .long) in
-    (r .numbers, r .are, few, ap total (r .are) ∙ total-exact (r .numbers) few)
+    let r = as-numbers p (values s) (λ k g. v .each k (omega (arith, g, v .long))) in
+    let few : addUp (r .numbers) ≤ 2 ^ 24 = omega (arith, r .few, mul-le-mul-right 65280 (filtered-few p (values s)), v .long) in
+    (r .numbers, r .are, few, ap summed (r .are) ∙ summed-exact (r .numbers) few)

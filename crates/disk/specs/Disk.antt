@@ -4,7 +4,7 @@ use mathlib.Core.Bool.{Bool}
 use mathlib.Core.List.{List}
 use lib.Dec.{leb}
 use Rattle.laws.specs.Lists.{from}
-use Rattle.levels.specs.Kept.{kept}
+use Rattle.levels.specs.Filtered.{filtered}
 
 -- how far a row or a column is from the centre's
 abbrev pub away : ℕ → ℕ
@@ -14,4 +14,4 @@ abbrev pub inDisk : ℕ → Bool
 inDisk k = leb (away (k % 17) * away (k % 17) + away (k / 17) * away (k / 17)) 25
 
 unfoldable pub disk : List ℕ
-disk = kept inDisk (from (λ k. k) 0 221)
+disk = filtered inDisk (from (λ k. k) 0 221)

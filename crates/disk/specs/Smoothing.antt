@@ -1,19 +1,12 @@
 -- Smoothing 1, 4, 6, 4, 1 down, then across.
-use Prim.Native.Nat.{ℕ, _+_, _*_}
-use mathlib.Core.List.{List}
-use lib.ListN.{getD}
-use lib.Ieee.{Float, nan, binary32, add, mul}
-use Rattle.levels.specs.Whole.{whole}
+use Prim.Native.Nat.{ℕ, _+_}
+use lib.Ieee.{Float, binary32, add, mul}
+use Rattle.ieee.specs.Numbers.{f32Of}
 
 -- by the source's operations: (a + e) + 4 (b + d) + 6 c
 abbrev pub binomial : Float → Float → Float → Float → Float → Float
 binomial a b c d e =
-    add binary32 (add binary32 (add binary32 a e) (mul binary32 (whole 4) (add binary32 b d))) (mul binary32 (whole 6) c)
-
--- of the five values from place k of a list on, each a stride after the one before
-abbrev pub along : List Float → ℕ → ℕ → Float
-along l k stride =
-    binomial (getD l k nan) (getD l (k + stride) nan) (getD l (k + 2 * stride) nan) (getD l (k + 3 * stride) nan) (getD l (k + 4 * stride) nan)
+    add binary32 (add binary32 (add binary32 a e) (mul binary32 (f32Of 4) (add binary32 b d))) (mul binary32 (f32Of 6) c)
 
 -- row y of `down` is made of rows y to y + 4, column x of `across` of columns x to x + 4
 abbrev pub down : (ℕ → ℕ → Float) → ℕ → ℕ → Float

@@ -4,6 +4,7 @@ ghost use Prim.Native.Nat.{_+_, _*_, _<_};
 ghost use lib.ListN.{length};
 ghost use Rattle.disk.specs.Rows.{inRows, read};
 ghost use Rattle.disk.specs.Smoothing as Smoothing;
+ghost use Rattle.disk.specs.Strided.{strided};
 ghost use Rattle.disk.specs.Gradients as Gradients;
 
 // The places of the disk in rows of 17: dx² + dy² ≤ 25, rows first.
@@ -99,9 +100,9 @@ fn binomial(a: f32, b: f32, c: f32, d: f32, e: f32) -> f32
 }
 
 // The same over the five values from place k on, each a stride after the one before.
-fn along(values: &[f32], k: usize, stride: usize) -> f32
+fn strided(values: &[f32], k: usize, stride: usize) -> f32
     requires { ⌜ k + 4 * stride < length (now values) ⌝ }
-    ensures { λ r. ⌜ r ≡ Smoothing.along (now (values .entry)) k stride ⌝ }
+    ensures { λ r. ⌜ r ≡ strided (now (values .entry)) k stride ⌝ }
 {
     binomial(
         values[k],
@@ -119,7 +120,7 @@ pub fn down(tile: &[f32; 289], out: &mut [f32; 221])
 {
     let mut k = 0;
     while k < 221 {
-        out[k] = along(tile, k, 17);
+        out[k] = strided(tile, k, 17);
         k += 1;
     }
 }
@@ -131,7 +132,7 @@ pub fn across(rows: &[f32; 221], out: &mut [f32; 217])
 {
     let mut k = 0;
     while k < 217 {
-        out[k] = along(rows, k, 1);
+        out[k] = strided(rows, k, 1);
         k += 1;
     }
 }

@@ -1,2 +1,2 @@
-pub mod Judged
-pub mod Codes
+pub mod Tiles
+pub mod Demand1

@@ -1,2 +1,2 @@
 pub mod Edge
-pub mod Code
+pub mod Demand1

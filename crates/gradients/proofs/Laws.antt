@@ -9,25 +9,35 @@ use lib.ListN.{length, getD, take, replicate, getD-replicate}
 use lib.Seq.{getD-set-same, getD-set-other, getD-take}
 use lib.Ieee
 use lib.Ieee.{Float, nan, binary32}
-use Rattle.refine.specs.Covariance.{judged}
+use Rattle.refine.specs.Covariance.{zeros, judged}
 use Rattle.refine.specs.declared.Judged.the-variants.{Covariance}
-use Rattle.support.specs.Ranges.{stateNumber}
+use Rattle.support.specs.Support.{stateNumber}
 use Rattle.support.proofs.Places.{few-cells, taken-long}
 use Rattle.support.proofs.Refusals.{small}
-use Rattle.gram.specs.Gram.{plusZero, gram}
-use Rattle.gram.proofs.Laws.{Zeros, zeros, gram-zero}
+use Rattle.ieee.specs.Numbers.{plusZero}
+use Rattle.gram.specs.Gram.{gram}
+use Rattle.gram.proofs.Laws.{Zeros, gram-zero}
 use Rattle.gradients.specs.declared.PixelGradients.{PixelGradients}
-use Rattle.gradients.specs.Gradients.{cleared, plus, covarianceOf}
+use Rattle.gradients.specs.Gradients.{cleared, addAt, covarianceOf}
 use Rattle.gradients.proofs.Refusals.{covariance-0}
 
 -- ---- an addition changes its own cell, and no other
 
 module _ (l : List Float) (k : ℕ) (x : Float) where
-  pub there : k < length l → getD (plus l k x) k nan ≡ Ieee.add binary32 (getD l k nan) x
+  pub there : k < length l → getD (addAt l k x) k nan ≡ Ieee.add binary32 (getD l k nan) x
   there h = getD-set-same l k (Ieee.add binary32 (getD l k nan) x) nan h
 
-  pub elsewhere : (j : ℕ) → (j ≡ k → ⊥) → getD (plus l k x) j nan ≡ getD l j nan
+  pub elsewhere : (j : ℕ) → (j ≡ k → ⊥) → getD (addAt l k x) j nan ≡ getD l j nan
   elsewhere j h = getD-set-other l k j (Ieee.add binary32 (getD l k nan) x) nan h
+
+-- ---- a reset clears every cell, those past the side too
+
+module _ (o : List ℤ) (side k : ℕ) (h : k < 1024) where
+  pub cleared-gx : getD (cleared o side .gx) k nan ≡ plusZero
+  cleared-gx = getD-replicate 1024 k plusZero nan h
+
+  pub cleared-gy : getD (cleared o side .gy) k nan ≡ plusZero
+  cleared-gy = getD-replicate 1024 k plusZero nan h
 
 -- ---- the support's sum
 

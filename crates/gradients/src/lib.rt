@@ -32,7 +32,8 @@ impl PixelGradients {
         }
     }
 
-    // The accumulator cleared for a `side` by `side` support whose top-left pixel is `origin`: every cell is zero, those past the side too.
+    // The accumulator cleared for a `side` by `side` support whose top-left pixel is `origin`: every cell is zero, those past
+    // the side too.
     pub fn reset(mut self, origin: [i32; 2], side: usize) -> Handed
         ensures { λ r. ⌜ r ≡ resetOf self origin side ⌝ }
     {
@@ -73,8 +74,8 @@ impl PixelGradients {
                 state: self,
             };
         }
-        let i = support::offset(x, origin[0], side);
-        let j = support::offset(y, origin[1], side);
+        let i = support::past_origin(x, origin[0], side);
+        let j = support::past_origin(y, origin[1], side);
         if !((i < side) & (j < side)) {
             return Handed {
                 number: 11,

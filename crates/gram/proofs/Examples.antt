@@ -1,49 +1,70 @@
--- The order of the sums, on cases where another order gives another figure. The floats are whole numbers, by their f32 patterns. Assumes nothing.
+-- The order and the formats of the sums, on cases where another order or format gives another figure. Assumes nothing.
 use mathlib.Core.Path.{_≡_, refl}
-use mathlib.Core.List.{[], _∷_}
+use mathlib.Core.List.{List, [], _∷_, map}
+use Prim.Native.Nat.{ℕ}
 use lib.Ieee
 use lib.Ieee.{Float, binary32, ofBits}
 use Rattle.ieee.specs.Convert.{convert}
-use Rattle.gram.specs.Gram.{plusZero, along, total}
+use Rattle.ieee.specs.Numbers.{plusZero}
+use Rattle.refine.specs.Covariance.{covariance, zeros}
+use Rattle.gram.specs.Gram.{productSum, gram}
 
--- 1, 2, 3, 4, 5, 2 ^ 30 and -2 ^ 30
-abbrev one : Float
-one = ofBits binary32 0x3f80_0000
+abbrev floats : List ℕ → List Float
+floats l = map (ofBits binary32) l
 
-abbrev two : Float
-two = ofBits binary32 0x4000_0000
+-- f32 patterns: 1, 4096, 4097, 2 ^ 30, -2 ^ 30 and 1.25 * 2 ^ -15
+abbrev one : ℕ
+one = 0x3f80_0000
 
-abbrev three : Float
-three = ofBits binary32 0x4040_0000
+abbrev large : ℕ
+large = 0x4580_0000
 
-abbrev four : Float
-four = ofBits binary32 0x4080_0000
+abbrev odd : ℕ
+odd = 0x4580_0800
 
-abbrev five : Float
-five = ofBits binary32 0x40a0_0000
+abbrev big : ℕ
+big = 0x4e80_0000
 
-abbrev big : Float
-big = ofBits binary32 0x4e80_0000
+abbrev minus : ℕ
+minus = 0xce80_0000
 
-abbrev minus : Float
-minus = ofBits binary32 0xce80_0000
+abbrev small : ℕ
+small = 0x3820_0000
 
--- 1 + 4 + 9 + 16 + 25 is 55
-pub squares : total (one ∷ two ∷ three ∷ four ∷ five ∷ []) (one ∷ two ∷ three ∷ four ∷ five ∷ []) ≡ ofBits binary32 0x425c_0000
-unfolding total ofBits convert Ieee.add Ieee.mul
-squares = refl
+abbrev square : List ℕ → Float
+square l = productSum (floats l) (floats l)
 
--- products 2 ^ 60, 1, -2 ^ 60, 1: each 1 meets a large number before the large ones cancel
-pub four-chains : total (big ∷ one ∷ big ∷ one ∷ []) (big ∷ one ∷ minus ∷ one ∷ []) ≡ plusZero
-unfolding total ofBits convert Ieee.add Ieee.mul
+-- the gradient (2, 3)
+pub components : gram (floats (0x4000_0000 ∷ [])) (floats (0x4040_0000 ∷ [])) ≡ covariance (ofBits binary32 0x4080_0000) (ofBits binary32 0x40c0_0000) (ofBits binary32 0x4110_0000)
+unfolding productSum ofBits convert Ieee.add Ieee.mul
+components = refl
+
+-- no gradient
+pub no-gradient : gram [] [] ≡ zeros
+unfolding productSum convert Ieee.add
+no-gradient = refl
+
+-- (p0 + p1) + (p2 + p3): one chain, ((p0 + p1) + p2) + p3 and (p0 + p2) + (p1 + p3) all end in 0
+pub joined-in-pairs : square (large ∷ one ∷ small ∷ small ∷ []) ≡ ofBits binary32 0x4b80_0001
+unfolding productSum ofBits convert Ieee.add Ieee.mul
+joined-in-pairs = refl
+
+-- products 0, 2 ^ 60, -2 ^ 60 and 1: one chain would keep the 1
+pub four-chains : productSum (floats (0 ∷ big ∷ big ∷ one ∷ [])) (floats (0 ∷ big ∷ minus ∷ one ∷ [])) ≡ plusZero
+unfolding productSum ofBits convert Ieee.add Ieee.mul
 four-chains = refl
 
--- one chain would keep the last 1
-pub one-chain : along (big ∷ one ∷ big ∷ one ∷ []) (big ∷ one ∷ minus ∷ one ∷ []) 1 0 plusZero 4 ≡ one
-unfolding ofBits Ieee.add Ieee.mul
-one-chain = refl
+-- products aren't rounded to f32: 4097² would lose its 1
+pub products-f64 : square (odd ∷ one ∷ 0 ∷ 0 ∷ []) ≡ ofBits binary32 0x4b80_1001
+unfolding productSum ofBits convert Ieee.add Ieee.mul
+products-f64 = refl
 
--- products 2 ^ 60, 1, 1, 1, -2 ^ 60: the rest is added to the first partial sum, where it cancels
-pub rest-first : total (big ∷ one ∷ one ∷ one ∷ big ∷ []) (big ∷ one ∷ one ∷ one ∷ minus ∷ []) ≡ three
-unfolding total ofBits convert Ieee.add Ieee.mul
-rest-first = refl
+-- nor are the sums
+pub sums-f64 : square (large ∷ one ∷ one ∷ 0 ∷ []) ≡ ofBits binary32 0x4b80_0001
+unfolding productSum ofBits convert Ieee.add Ieee.mul
+sums-f64 = refl
+
+-- the rest is added to the first partial sum before the four are joined: added last, or in another lane, this ends in 0
+pub rest-in-first : square (small ∷ large ∷ 0 ∷ 0 ∷ 0 ∷ one ∷ 0 ∷ 0 ∷ small ∷ []) ≡ ofBits binary32 0x4b80_0001
+unfolding productSum ofBits convert Ieee.add Ieee.mul
+rest-in-first = refl

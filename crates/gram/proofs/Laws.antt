@@ -8,11 +8,11 @@ use lib.Ieee
 use lib.Ieee.{Float, nan, binary32, binary64}
 use Rattle.ieee.specs.Convert.{convert}
 use Rattle.ieee.specs.Order.{finite}
-use Rattle.refine.specs.Covariance.{covariance, judged}
-use Rattle.refine.specs.declared.PositionCovariance.{PositionCovariance}
+use Rattle.refine.specs.Covariance.{zeros, judged}
 use Rattle.refine.specs.declared.Judged.the-variants.{Covariance}
-use Rattle.gram.specs.Gram.{plusZero, product, along, partial, total, gram}
-use Rattle.gram.proofs.Sums.{total-is, gram-is}
+use Rattle.ieee.specs.Numbers.{plusZero}
+use Rattle.gram.specs.Gram.{product, along, partial, productSum, gram}
+use Rattle.gram.proofs.Sums.{product-sum-is, gram-is}
 
 abbrev pub Zeros : List Float → Type 0
 Zeros l = (i : ℕ) → i < length l → getD l i nan ≡ plusZero
@@ -45,15 +45,12 @@ module _ (a b : List Float) (za : Zeros a) (zb : Zeros b) (e : length a ≡ leng
   rest-zero : along a b 1 (length a / 4 * 4) plusZero (length a % 4) ≡ plusZero
   rest-zero = along-zero a b 1 (length a / 4 * 4) (length a % 4) (λ j i. products (j * 1 + length a / 4 * 4) (omega arith))
 
-  pub total-zero : total a b ≡ plusZero
-  total-zero =
+  pub product-sum-zero : productSum a b ≡ plusZero
+  product-sum-zero =
       sym
-      (total-is a b (length a) refl (sym (partial-zero 0 (omega arith))) (sym (partial-zero 1 (omega arith))) (sym (partial-zero 2 (omega arith))) (sym (partial-zero 3 (omega arith)))
+      (product-sum-is a b (length a) refl (sym (partial-zero 0 (omega arith))) (sym (partial-zero 1 (omega arith))) (sym (partial-zero 2 (omega arith))) (sym (partial-zero 3 (omega arith)))
       (sym rest-zero) rounded-zero)
-
-abbrev pub zeros : PositionCovariance
-zeros = covariance plusZero plusZero plusZero
 
 pub gram-zero : (a b : List Float) → Zeros a → Zeros b → length a ≡ length b → judged (gram a b) ≡ Covariance zeros
 unfolding finite
-gram-zero a b za zb e = ap judged (sym (gram-is a b (sym (total-zero a a za za refl)) (sym (total-zero a b za zb e)) (sym (total-zero b b zb zb refl)) refl))
+gram-zero a b za zb e = ap judged (sym (gram-is a b (sym (product-sum-zero a a za za refl)) (sym (product-sum-zero a b za zb e)) (sym (product-sum-zero b b zb zb refl)) refl))

@@ -1,4 +1,4 @@
--- A NaN in a cell is a NaN in the total of its square, so the covariance is refused. Assumes nothing.
+-- A NaN in a cell is a NaN in the sum of its squares, so the covariance is refused. Assumes nothing.
 use mathlib.Core.Path.{_≡_, refl, sym, ap, _∙_, subst}
 use mathlib.Core.Bool.{Bool, true, false, not, cond, _&&_, _||_, true≢false, false≢true}
 use mathlib.Core.Logic.{_⊎_, inl, inr}
@@ -18,7 +18,9 @@ use Rattle.ieee.proofs.Tests.{nan-is, no-nan}
 use Rattle.refine.specs.Covariance.{covariance, judged}
 use Rattle.refine.specs.declared.Judged.{Judged}
 use Rattle.refine.specs.declared.Judged.the-variants.{Covariance, Refused}
-use Rattle.gram.specs.Gram.{plusZero, product, along, partial, total, gram, anyNan}
+use Rattle.ieee.specs.Numbers.{plusZero}
+use Rattle.gram.specs.Gram.{product, along, partial, productSum, gram}
+use Rattle.gram.specs.Loops.{anyNan}
 
 -- ---- what the test of the cells tells
 neither : (p q : Bool) → p || q ≡ false → (p ≡ false) × (q ≡ false)
@@ -99,9 +101,9 @@ module _ (a : List Float) where
         | inr m ↦ nan-left (product a a (n * step + k)) (along-met step k s n j m e)
       ]
 
-  total-nan : NanIn a → total a a ≡ nan
-  unfolding total
-  total-nan w = elim (le-or-lt (m * 4) i) [ inl h ↦ in-rest (rest h) | inr h ↦ in-fours (i % 4) (omega arith) refl h ]
+  product-sum-nan : NanIn a → productSum a a ≡ nan
+  unfolding productSum
+  product-sum-nan w = elim (le-or-lt (m * 4) i) [ inl h ↦ in-rest (rest h) | inr h ↦ in-fours (i % 4) (omega arith) refl h ]
     where
       i : ℕ
       i = w .place
@@ -118,13 +120,13 @@ module _ (a : List Float) where
       rest : m * 4 ≤ i → p0 ≡ nan
       rest h = along-met 1 (m * 4) (partial a a 0 m) (length a % 4) (i - m * 4) (omega (arith, h, w .inside)) (at (omega (arith, h)))
 
-      in-rest : p0 ≡ nan → total a a ≡ nan
+      in-rest : p0 ≡ nan → productSum a a ≡ nan
       in-rest e = nan-rounded (nan-left _ (nan-left _ e))
 
       in-partial : (l : ℕ) → i % 4 ≡ l → i < m * 4 → partial a a l m ≡ nan
       in-partial l e h = along-met 4 l plusZero m (i / 4) (omega (arith, h)) (at (omega (arith, e)))
 
-      in-fours : (l : ℕ) → l < 4 → i % 4 ≡ l → i < m * 4 → total a a ≡ nan
+      in-fours : (l : ℕ) → l < 4 → i % 4 ≡ l → i < m * 4 → productSum a a ≡ nan
       in-fours zero b e h = in-rest (along-from 1 (m * 4) (length a % 4) (in-partial 0 e h))
       in-fours (suc zero) b e h = nan-rounded (nan-left _ (nan-right _ (in-partial 1 e h)))
       in-fours (suc (suc zero)) b e h = nan-rounded (nan-right _ (nan-left _ (in-partial 2 e h)))
@@ -140,8 +142,8 @@ unfolding finite
 refused gx gy e h = go (found gx gy (length gx) (omega arith) (omega (arith, e)) h)
   where
     go : NanIn gx ⊎ NanIn gy → Refused 13 ≡ judged (gram gx gy)
-    go (inl w) = sym (ap (λ (x : Float). judged (covariance x (total gx gy) (total gy gy))) (total-nan gx w))
+    go (inl w) = sym (ap (λ (x : Float). judged (covariance x (productSum gx gy) (productSum gy gy))) (product-sum-nan gx w))
     go (inr w) =
         sym
-        (ap (λ (x : Float). judged (covariance (total gx gx) (total gx gy) x)) (total-nan gy w)
-        ∙ ap (λ (b : Bool). cond {A = Judged} b (Covariance (covariance (total gx gx) (total gx gy) nan)) (Refused 13)) (no-third (finite (total gx gx) && finite (total gx gy))))
+        (ap (λ (x : Float). judged (covariance (productSum gx gx) (productSum gx gy) x)) (product-sum-nan gy w)
+        ∙ ap (λ (b : Bool). cond {A = Judged} b (Covariance (covariance (productSum gx gx) (productSum gx gy) nan)) (Refused 13)) (no-third (finite (productSum gx gx) && finite (productSum gx gy))))

@@ -12,7 +12,8 @@ use Rattle.ieee.specs.Convert.{convert}
 use Rattle.refine.specs.Covariance.{covariance}
 use Rattle.refine.specs.declared.PositionCovariance.{PositionCovariance}
 use Rattle.gram.specs.declared.Three.{Three}
-use Rattle.gram.specs.Gram.{product, along, partial, Added, FourSums, none, total, gram}
+use Rattle.gram.specs.Gram.{product, along, partial, productSum, gram}
+use Rattle.gram.specs.Loops.{Added, FourSums, none}
 
 module _ (a b : List Float) where
   along-more : (step k : ℕ) (s₀ : Float) (n i : ℕ) {s r : Float} → s ≡ along a b step k s₀ n → i ≡ n * step + k → r ≡ along a b 1 i s 1
@@ -25,10 +26,10 @@ module _ (a b : List Float) where
   along-one : (i : ℕ) (s : Float) {r : Float} → r ≡ Ieee.add binary64 s (product a b i) → r ≡ along a b 1 i s 1
   along-one i s h = h ∙ ap (λ (j : ℕ). Ieee.add binary64 s (product a b j)) (omega arith)
 
-  pub total-is : (n : ℕ) → n ≡ length a → {p0 p1 p2 p3 q r : Float} → p0 ≡ partial a b 0 (n / 4) → p1 ≡ partial a b 1 (n / 4) → p2 ≡ partial a b 2 (n / 4) → p3 ≡ partial a b 3 (n / 4)
-      → q ≡ along a b 1 (n / 4 * 4) p0 (n % 4) → r ≡ convert binary32 (Ieee.add binary64 (Ieee.add binary64 q p1) (Ieee.add binary64 p2 p3)) → r ≡ total a b
-  unfolding total
-  total-is n l e0 e1 e2 e3 e h =
+  pub product-sum-is : (n : ℕ) → n ≡ length a → {p0 p1 p2 p3 q r : Float} → p0 ≡ partial a b 0 (n / 4) → p1 ≡ partial a b 1 (n / 4) → p2 ≡ partial a b 2 (n / 4) → p3 ≡ partial a b 3 (n / 4)
+      → q ≡ along a b 1 (n / 4 * 4) p0 (n % 4) → r ≡ convert binary32 (Ieee.add binary64 (Ieee.add binary64 q p1) (Ieee.add binary64 p2 p3)) → r ≡ productSum a b
+  unfolding productSum
+  product-sum-is n l e0 e1 e2 e3 e h =
       h ∙ joined (e ∙ ap (λ (x : Float). along a b 1 (n / 4 * 4) x (n % 4)) e0) e1 e2 e3
       ∙ ap (λ (n : ℕ). convert binary32 (Ieee.add binary64 (Ieee.add binary64 (along a b 1 (n / 4 * 4) (partial a b 0 (n / 4)) (n % 4)) (partial a b 1 (n / 4))) (Ieee.add binary64 (partial a b 2 (n / 4)) (partial a b 3 (n / 4))))) l
     where
@@ -36,7 +37,7 @@ module _ (a b : List Float) where
           → convert binary32 (Ieee.add binary64 (Ieee.add binary64 x y) (Ieee.add binary64 z w)) ≡ convert binary32 (Ieee.add binary64 (Ieee.add binary64 x′ y′) (Ieee.add binary64 z′ w′))
       joined e f g h = cc
 
-  pub gram-is : {xx xy yy : Float} {c : PositionCovariance} → xx ≡ total a a → xy ≡ total a b → yy ≡ total b b → c ≡ covariance xx xy yy → c ≡ gram a b
+  pub gram-is : {xx xy yy : Float} {c : PositionCovariance} → xx ≡ productSum a a → xy ≡ productSum a b → yy ≡ productSum b b → c ≡ covariance xx xy yy → c ≡ gram a b
   gram-is e f g h = h ∙ same e f g
     where
       same : {x y z x′ y′ z′ : Float} → x ≡ x′ → y ≡ y′ → z ≡ z′ → covariance x y z ≡ covariance x′ y′ z′
@@ -92,7 +93,7 @@ module _ (gx gy : List Float) where
       → c ≡ covariance x y z → c ≡ gram gx gy
   sums-are l f q x y z h =
       gram-is gx gy
-      (total-is gx gx (length gx) refl (f .zeroth .of-xx) (f .first .of-xx) (f .second .of-xx) (f .third .of-xx) (q .of-xx) x)
-      (total-is gx gy (length gx) refl (f .zeroth .of-xy) (f .first .of-xy) (f .second .of-xy) (f .third .of-xy) (q .of-xy) y)
-      (total-is gy gy (length gx) l (f .zeroth .of-yy) (f .first .of-yy) (f .second .of-yy) (f .third .of-yy) (q .of-yy) z)
+      (product-sum-is gx gx (length gx) refl (f .zeroth .of-xx) (f .first .of-xx) (f .second .of-xx) (f .third .of-xx) (q .of-xx) x)
+      (product-sum-is gx gy (length gx) refl (f .zeroth .of-xy) (f .first .of-xy) (f .second .of-xy) (f .third .of-xy) (q .of-xy) y)
+      (product-sum-is gy gy (length gx) l (f .zeroth .of-yy) (f .first .of-yy) (f .second .of-yy) (f .third .of-yy) (q .of-yy) z)
       h

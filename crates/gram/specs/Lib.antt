@@ -1,1 +1,2 @@
 pub mod Gram
+pub mod Loops

@@ -5,11 +5,12 @@ ghost use lib.ListN.{length};
 ghost use lib.Ieee.{add, binary32, binary64};
 ghost use Rattle.ieee.specs.Convert.{convert};
 ghost use Rattle.refine.specs.Covariance.{judged};
-ghost use Rattle.gram.specs.Gram.{Added, FourSums, none, gram, anyNan, Plain};
+ghost use Rattle.gram.specs.Gram.{gram};
+ghost use Rattle.gram.specs.Loops.{Added, FourSums, none, anyNan, Plain};
 use refine::Judged;
 use refine::PositionCovariance;
 
-// The sum of g by its transpose over gradients g = (gx, gy). Where a cell is a NaN, so is the total of its square.
+// The sum of g by its transpose over gradients g = (gx, gy). Where a cell is a NaN, so is the sum of its squares.
 pub fn gram(gx: &[f32], gy: &[f32]) -> Judged
     requires { ⌜ length (now gx) ≡ length (now gy) ⌝ }
     ensures { λ r. ⌜ r ≡ judged (gram (now (gx .entry)) (now (gy .entry))) ⌝ }
@@ -59,7 +60,8 @@ struct Four {
 
 fn partials(gx: &[f32], gy: &[f32]) -> Four
     requires { ⌜ Plain (now gx) (now gy) ⌝ }
-    ensures { λ r. ⌜ FourSums (now (gx .entry)) (now (gy .entry)) (length (now (gx .entry)) / 4) (r .p0) (r .p1) (r .p2) (r .p3) ⌝ }
+    ensures { λ r. ⌜ FourSums (now (gx .entry)) (now (gy .entry)) (length (now (gx .entry)) / 4)
+        (r .p0) (r .p1) (r .p2) (r .p3) ⌝ }
 {
     let fours = gx.len() / 4;
     let mut p0 = none();
@@ -69,10 +71,10 @@ fn partials(gx: &[f32], gy: &[f32]) -> Four
     let mut k = 0;
     while k < fours {
         let i = k * 4;
-        p0 = plus(p0, gx, gy, i);
-        p1 = plus(p1, gx, gy, i + 1);
-        p2 = plus(p2, gx, gy, i + 2);
-        p3 = plus(p3, gx, gy, i + 3);
+        p0 = with_products(p0, gx, gy, i);
+        p1 = with_products(p1, gx, gy, i + 1);
+        p2 = with_products(p2, gx, gy, i + 2);
+        p3 = with_products(p3, gx, gy, i + 3);
         k += 1;
     }
     Four { p0, p1, p2, p3 }
@@ -81,7 +83,8 @@ fn partials(gx: &[f32], gy: &[f32]) -> Four
 // s, and what is left past the whole fours added to it.
 fn with_rest(gx: &[f32], gy: &[f32], s: Three) -> Three
     requires { ⌜ Plain (now gx) (now gy) ⌝ }
-    ensures { λ r. ⌜ Added (now (gx .entry)) (now (gy .entry)) 1 (length (now (gx .entry)) / 4 * 4) s (length (now (gx .entry)) % 4) r ⌝ }
+    ensures { λ r. ⌜ Added (now (gx .entry)) (now (gy .entry)) 1 (length (now (gx .entry)) / 4 * 4) s
+        (length (now (gx .entry)) % 4) r ⌝ }
 {
     let first = gx.len() / 4 * 4;
     let rest = gx.len() % 4;
@@ -89,7 +92,7 @@ fn with_rest(gx: &[f32], gy: &[f32], s: Three) -> Three
     let mut k = 0;
     while k < rest {
         let i = first + k;
-        sums = plus(sums, gx, gy, i);
+        sums = with_products(sums, gx, gy, i);
         k += 1;
     }
     sums
@@ -106,7 +109,7 @@ fn none() -> Three
 }
 
 // s, and the products at place i, which are exact in f64.
-fn plus(s: Three, gx: &[f32], gy: &[f32], i: usize) -> Three
+fn with_products(s: Three, gx: &[f32], gy: &[f32], i: usize) -> Three
     requires { ⌜ Plain (now gx) (now gy) × (i < length (now gx)) ⌝ }
     ensures { λ r. ⌜ Added (now (gx .entry)) (now (gy .entry)) 1 i s 1 r ⌝ }
 {
@@ -119,7 +122,7 @@ fn plus(s: Three, gx: &[f32], gy: &[f32], i: usize) -> Three
     }
 }
 
-// A component's total.
+// A component: the four partial sums joined.
 fn joined(p0: f64, p1: f64, p2: f64, p3: f64) -> f32
     ensures { λ r. ⌜ r ≡ convert binary32 (add binary64 (add binary64 p0 p1) (add binary64 p2 p3)) ⌝ }
 {

@@ -52,7 +52,8 @@ pub struct ImageView<'a> {
 impl<'a> ImageView<'a> {
     // A view with the origin at (0, 0).
     pub fn from_u8_slice(width: usize, height: usize, pixels: &'a [u8]) -> Self
-        ensures { λ r. ⌜ (r .pixels ≡ pixels .entry) × (r .width ≡ width) × (r .height ≡ height) × (r .origin ≡ pos 0 ∷ pos 0 ∷ []) ⌝ }
+        ensures { λ r. ⌜ (r .pixels ≡ pixels .entry) × (r .width ≡ width) × (r .height ≡ height)
+            × (r .origin ≡ pos 0 ∷ pos 0 ∷ []) ⌝ }
     {
         Self {
             pixels,
@@ -77,23 +78,9 @@ impl<'a> ImageView<'a> {
     // The sample at (x, y).
     pub fn sample(self, x: i32, y: i32) -> f32
         requires { ⌜ length (now (self .pixels)) ≡ self .width * self .height ⌝ }
-        ensures { λ r. ⌜ r ≡ sample (now (self .entry .pixels)) (self .entry .width) (self .entry .height) (self .entry .origin) x y ⌝ }
+        ensures { λ r. ⌜ r ≡
+            sample (now (self .entry .pixels)) (self .entry .width) (self .entry .height) (self .entry .origin) x y ⌝ }
     {
         sample_at(self.pixels, self.width, self.height, self.origin, x, y)
     }
-}
-
-// The sample at (x, y) of the view of a slice, for a caller that has no view.
-pub fn view_sample(
-    pixels: &[u8],
-    width: usize,
-    height: usize,
-    origin: [i32; 2],
-    x: i32,
-    y: i32,
-) -> f32
-    requires { ⌜ length (now pixels) ≡ width * height ⌝ }
-    ensures { λ r. ⌜ r ≡ sample (now (pixels .entry)) width height origin x y ⌝ }
-{
-    ImageView::with_origin(width, height, pixels, origin).sample(x, y)
 }

@@ -13,11 +13,10 @@ use Rattle.quantile.specs.Quantile.{quiet}
 use Rattle.sums.specs.Admitted.{totalOf, noTotal, threshold, cut}
 use Rattle.sums.specs.Start.{mean, meanQuiet, start}
 use Rattle.sums.specs.declared.Total.{Total}
-use Rattle.rounds.specs.Rounds.{next, near, oneRound, maxRounds, settle, judged, bandVariance, imageTotal, imageVariance}
+use Rattle.rounds.specs.Rounds.{next, near, settledAt, oneRound, maxRounds, settle, judged, bandVariance}
 use Rattle.rounds.specs.declared.Found.{Found}
 use Rattle.rounds.specs.declared.Found.the-variants.{Variance, Missing}
 use Rattle.joining.specs.Joining.{median, outlierLimit, withBand, joined, deviation, decided, sigmaOf, noise, noiseUnder}
-use Rattle.joining.specs.declared.Noise.{Noise}
 use Rattle.joining.specs.declared.Sigma.the-variants.{Figure, Number}
 
 abbrev total : ℕ → ℕ → Total
@@ -108,16 +107,19 @@ pub numbers : (decided (total 511 0) ≡ Number 7) × (decided (total 512 0) ≡
 unfolding decided deviation sigmaOf sqrt convert div ofInt round
 numbers = (refl, refl, refl)
 
--- a flat lid of 511 windows, and one of 512, in one band
-abbrev flatLid : ℕ → Noise
-flatLid n = noise (from (λ (k : ℕ). f64Of 0) 0 n) (from (λ (k : ℕ). f64Of 0) 0 n) (0 ∷ n ∷ n ∷ n ∷ n ∷ [])
+-- n windows of gate and output 0 in band 0, and none in the others
+abbrev zeros : ℕ → List Float
+zeros n = from (λ (k : ℕ). f64Of 0) 0 n
 
-pub few : flatLid 511 ≡ record { sigma = Number 5; rounds = 0 }
+abbrev inBand0 : ℕ → List ℕ
+inBand0 n = 0 ∷ n ∷ n ∷ n ∷ n ∷ []
+
+pub few : noise (zeros 511) (zeros 511) (inBand0 511) ≡ record { sigma = Number 5; rounds = 0 }
 unfolding noise
 few = refl
 
--- one round for the image and one for the band; empty bands have none
-pub enough : flatLid 512 ≡ record { sigma = Figure plusZero; rounds = 2 }
-unfolding noise noiseUnder sigmaOf decided deviation joined outlierLimit median imageVariance imageTotal bandVariance judged settle maxRounds oneRound
-    next near start quiet meanQuiet mean threshold cut sqrt convert totalLess negative isNan larger magnitude sub neg add mul div lt le eq ofInt round
-enough = refl
+-- after three rounds for the image, one for a band of 128 windows and none for an empty band
+pub four-rounds : noiseUnder (zeros 128) (zeros 128) (inBand0 128) (settledAt 128 (f64Of 0) 3) ≡ record { sigma = Number 7; rounds = 4 }
+unfolding noiseUnder sigmaOf decided joined outlierLimit median bandVariance judged settle maxRounds oneRound next near start quiet meanQuiet mean
+    threshold cut convert totalLess negative isNan larger magnitude sub neg add mul div lt le eq ofInt round
+four-rounds = refl

@@ -14,7 +14,8 @@ use Rattle.knots.specs.declared.Width.{Width}
 use Rattle.knots.specs.declared.Width.the-variants.{Known, Unknown}
 use Rattle.knots.specs.declared.Place.{Place}
 use Rattle.knots.specs.declared.Place.the-variants.{Knot, Between}
-use Rattle.knots.specs.Places.{every, between, place, Inside, blend, column}
+use Rattle.knots.specs.Places.{every, placeFrom, place, blend, valueAt}
+use Rattle.knots.specs.Loops.{Inside}
 use Rattle.knots.proofs.Tables.{Seeking, seek-start, seek-more, seek-found, seek-end}
 
 -- ---- the rule of the knots
@@ -26,7 +27,7 @@ module _ (l : List Float) (n : ℕ) where
 
   module _ (w : Float) where
     by : Bool → Place
-    by b = cond b (between l w 0 (n - 1)) (Knot 0)
+    by b = cond b (placeFrom l w 0 (n - 1)) (Knot 0)
 
     pub first-not-finite : finite w ≡ false → place l n (Known w) ≡ Knot 0
     unfolding place by
@@ -44,7 +45,7 @@ module _ (l : List Float) (n : ℕ) where
     seek zero h a = seek-start l w (n - 1)
     seek (suc k) h a = subst (Seeking l w (n - 1)) (add-one k) (seek-more l w (seek k (omega arith) (λ j i. a j (omega arith))) (omega arith) (a (k + 1) (omega arith)))
 
-    searched : finite w ≡ true → Above 0 → place l n (Known w) ≡ between l w 0 (n - 1)
+    searched : finite w ≡ true → Above 0 → place l n (Known w) ≡ placeFrom l w 0 (n - 1)
     unfolding place by
     searched f a = ap (λ (b : Bool). by (b && not (le w (at l 0)))) f ∙ ap (λ (b : Bool). by (not b)) (a 0 (omega arith))
 
@@ -63,12 +64,12 @@ pub every-same : (p q : ℕ → Bool) (n : ℕ) → ((k : ℕ) → k < n → p k
 every-same p q zero h = refl
 every-same p q (suc n) h = and (every-same p q n (λ k i. h k (omega arith))) (h n (omega arith))
 
-pub between-same : (l m : List Float) (w : Float) (k n : ℕ) → ((j : ℕ) → j ≤ k + n → at l j ≡ at m j) → between l w k n ≡ between m w k n
-between-same l m w k zero h = refl
-between-same l m w k (suc n) h =
-    ap (λ (x : Float). step (at l k) x (between l w (k + 1) n)) (h (k + 1) (omega arith))
-    ∙ ap (λ (x : Float). step x (at m (k + 1)) (between l w (k + 1) n)) (h k (omega arith))
-    ∙ ap (λ (r : Place). step (at m k) (at m (k + 1)) r) (between-same l m w (k + 1) n (λ j i. h j (omega arith)))
+pub place-from-same : (l m : List Float) (w : Float) (k n : ℕ) → ((j : ℕ) → j ≤ k + n → at l j ≡ at m j) → placeFrom l w k n ≡ placeFrom m w k n
+place-from-same l m w k zero h = refl
+place-from-same l m w k (suc n) h =
+    ap (λ (x : Float). step (at l k) x (placeFrom l w (k + 1) n)) (h (k + 1) (omega arith))
+    ∙ ap (λ (x : Float). step x (at m (k + 1)) (placeFrom l w (k + 1) n)) (h k (omega arith))
+    ∙ ap (λ (r : Place). step (at m k) (at m (k + 1)) r) (place-from-same l m w (k + 1) n (λ j i. h j (omega arith)))
   where
     step : Float → Float → Place → Place
     step x y r = cond (le w y) (Between k ((w ⊖ x) ⊘ (y ⊖ x))) r
@@ -77,10 +78,10 @@ pub place-same : (l m : List Float) (n : ℕ) (w : Width) → 0 < n → ((j : �
 unfolding place
 place-same l m n Unknown p h = refl
 place-same l m n (Known w) p h =
-    ap (λ (x : Float). cond (finite w && not (le w x)) (between l w 0 (n - 1)) (Knot 0)) (h 0 p)
-    ∙ ap (λ (r : Place). cond (finite w && not (le w (at m 0))) r (Knot 0)) (between-same l m w 0 (n - 1) (λ j i. h j (omega arith)))
+    ap (λ (x : Float). cond (finite w && not (le w x)) (placeFrom l w 0 (n - 1)) (Knot 0)) (h 0 p)
+    ∙ ap (λ (r : Place). cond (finite w && not (le w (at m 0))) r (Knot 0)) (place-from-same l m w 0 (n - 1) (λ j i. h j (omega arith)))
 
-pub column-same : (l m : List Float) (n : ℕ) (p : Place) → Inside n p → ((j : ℕ) → j < n → at l j ≡ at m j) → column l p ≡ column m p
-unfolding column
-column-same l m n (Knot k) i h = h k i
-column-same l m n (Between k t) i h = ap (λ (x : Float). blend x (at l (k + 1)) t) (h k (omega arith)) ∙ ap (λ (y : Float). blend (at m k) y t) (h (k + 1) i)
+pub value-same : (l m : List Float) (n : ℕ) (p : Place) → Inside n p → ((j : ℕ) → j < n → at l j ≡ at m j) → valueAt l p ≡ valueAt m p
+unfolding valueAt
+value-same l m n (Knot k) i h = h k i
+value-same l m n (Between k t) i h = ap (λ (x : Float). blend x (at l (k + 1)) t) (h k (omega arith)) ∙ ap (λ (y : Float). blend (at m k) y t) (h (k + 1) i)

@@ -16,7 +16,8 @@ use Rattle.refine.proofs.Refusing.{and, and-right}
 use Rattle.ranges.specs.Arith.{_⊖_, _⊘_, at}
 use Rattle.ranges.specs.Ranges.{within}
 use Rattle.ranges.proofs.Negations.{not-le}
-use Rattle.knots.specs.Places.{every, risesAt, knotAt, sound, between, place, Inside}
+use Rattle.knots.specs.Places.{every, risesAt, knotAt, placeFrom, place}
+use Rattle.knots.specs.Loops.{sound, Inside}
 
 -- ---- a test of each of n
 
@@ -113,20 +114,20 @@ module _ (l g r : List Float) where
 
 pub record Seeking (l : List Float) (w : Float) (n k : ℕ) : Type 0 where
   pub low : k ≤ n
-  pub left : between l w k (n - k) ≡ between l w 0 n
+  pub left : placeFrom l w k (n - k) ≡ placeFrom l w 0 n
 
 module _ (l : List Float) (w : Float) where
   share : ℕ → Float
   share k = (w ⊖ at l k) ⊘ (at l (k + 1) ⊖ at l k)
 
-  one-more : (n k : ℕ) → k < n → between l w k (n - k) ≡ cond (le w (at l (k + 1))) (Between k ((w ⊖ at l k) ⊘ (at l (k + 1) ⊖ at l k))) (between l w (k + 1) (n - (k + 1)))
-  one-more n k h = ap (λ (m : ℕ). between l w k m) (next n k h)
+  one-more : (n k : ℕ) → k < n → placeFrom l w k (n - k) ≡ cond (le w (at l (k + 1))) (Between k ((w ⊖ at l k) ⊘ (at l (k + 1) ⊖ at l k))) (placeFrom l w (k + 1) (n - (k + 1)))
+  one-more n k h = ap (λ (m : ℕ). placeFrom l w k m) (next n k h)
     where
       next : (n k : ℕ) → k < n → n - k ≡ suc (n - (k + 1))
       next n k h = omega arith
 
   pub seek-start : (n : ℕ) → Seeking l w n 0
-  seek-start n = record { low = omega arith; left = ap (λ (m : ℕ). between l w 0 m) (whole n) }
+  seek-start n = record { low = omega arith; left = ap (λ (m : ℕ). placeFrom l w 0 m) (whole n) }
     where
       whole : (n : ℕ) → n - 0 ≡ n
       whole n = omega arith
@@ -135,23 +136,23 @@ module _ (l : List Float) (w : Float) where
     pub seek-more : k < n → le w (at l (k + 1)) ≡ false → Seeking l w n (k + 1)
     seek-more h t = record { low = omega arith; left = passed _ _ _ t ∙ sym (one-more n k h) ∙ i .left }
 
-    pub seek-found : k < n → le w (at l (k + 1)) ≡ true → Between k ((w ⊖ at l k) ⊘ (at l (k + 1) ⊖ at l k)) ≡ between l w 0 n
+    pub seek-found : k < n → le w (at l (k + 1)) ≡ true → Between k ((w ⊖ at l k) ⊘ (at l (k + 1) ⊖ at l k)) ≡ placeFrom l w 0 n
     seek-found h t = chosen _ _ _ t ∙ sym (one-more n k h) ∙ i .left
 
-    pub seek-end : n ≤ k → Knot k ≡ between l w 0 n
-    seek-end h = ap (λ (m : ℕ). between l w k m) (none n k h) ∙ i .left
+    pub seek-end : n ≤ k → Knot k ≡ placeFrom l w 0 n
+    seek-end h = ap (λ (m : ℕ). placeFrom l w k m) (none n k h) ∙ i .left
       where
         none : (n k : ℕ) → n ≤ k → zero ≡ n - k
         none n k h = omega arith
 
   -- ---- a place lies among the knots
 
-  between-in : (k n m : ℕ) → k + n < m → Inside m (between l w k n)
-  between-in k zero m h = omega arith
-  between-in k (suc n) m h =
-      cond-both (Inside m) (le w (at l (k + 1))) _ _ (omega arith) (between-in (k + 1) n m (omega arith))
+  place-from-in : (k n m : ℕ) → k + n < m → Inside m (placeFrom l w k n)
+  place-from-in k zero m h = omega arith
+  place-from-in k (suc n) m h =
+      cond-both (Inside m) (le w (at l (k + 1))) _ _ (omega arith) (place-from-in (k + 1) n m (omega arith))
 
 pub place-in : (l : List Float) (n m : ℕ) (w : Width) → 0 < n → n ≤ m → Inside m (place l n w)
 unfolding place
 place-in l n m Unknown p h = omega arith
-place-in l n m (Known w) p h = cond-both (Inside m) (finite w && not (le w (at l 0))) _ _ (between-in l w 0 (n - 1) m (omega arith)) (omega arith)
+place-in l n m (Known w) p h = cond-both (Inside m) (finite w && not (le w (at l 0))) _ _ (place-from-in l w 0 (n - 1) m (omega arith)) (omega arith)

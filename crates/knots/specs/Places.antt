@@ -1,5 +1,5 @@
--- Knots by increasing edge width: where a width lies among them, and what a column gives there.
-use Prim.Native.Nat.{ℕ, zero, suc, _+_, _-_, _<_}
+-- Knots by increasing edge width: where a width lies among them, and what gains or residuals give there.
+use Prim.Native.Nat.{ℕ, zero, suc, _+_, _-_}
 use mathlib.Core.Bool.{Bool, true, cond, not, _&&_}
 use mathlib.Core.List.{List}
 use lib.Ieee.{Float, lt, le}
@@ -24,35 +24,25 @@ risesAt l k = lt (at l k) (at l (k + 1))
 abbrev pub knotAt : List Float → ℕ → Bool
 knotAt l k = within 1000 (at l k)
 
--- the first n widths rise strictly, and the first n numbers of each column are in the range of knots
-abbrev pub sound : List Float → List Float → List Float → ℕ → Bool
-sound widths gains residuals n =
-    every (risesAt widths) (n - 1) && ((every (knotAt widths) n && every (knotAt gains) n) && every (knotAt residuals) n)
-
 -- ---- where a width lies
 
 -- from knot k on, with n knots after it: between the first two whose upper one is at or above w, and at the last if none is
-abbrev pub between : List Float → Float → ℕ → ℕ → Place
-between l w k zero = Knot k
-between l w k (suc n) =
-    cond (le w (at l (k + 1))) (Between k ((w ⊖ at l k) ⊘ (at l (k + 1) ⊖ at l k))) (between l w (k + 1) n)
+abbrev pub placeFrom : List Float → Float → ℕ → ℕ → Place
+placeFrom l w k zero = Knot k
+placeFrom l w k (suc n) =
+    cond (le w (at l (k + 1))) (Between k ((w ⊖ at l k) ⊘ (at l (k + 1) ⊖ at l k))) (placeFrom l w (k + 1) n)
 
 -- no width, an infinite one or NaN, or one at or below the first knot is at the first
 unfoldable pub place : List Float → ℕ → Width → Place
 place l n Unknown = Knot 0
-place l n (Known w) = cond (finite w && not (le w (at l 0))) (between l w 0 (n - 1)) (Knot 0)
+place l n (Known w) = cond (finite w && not (le w (at l 0))) (placeFrom l w 0 (n - 1)) (Knot 0)
 
--- the place's own knot, or the one below it and the one above
-abbrev pub Inside : ℕ → Place → Type 0
-Inside n (Knot k) = k < n
-Inside n (Between k t) = k + 1 < n
-
--- ---- what a column gives there
+-- ---- what gains or residuals give there
 
 -- the part t of the way from one number to another
 abbrev pub blend : Float → Float → Float → Float
 blend lower upper t = lower ⊕ t ⊗ (upper ⊖ lower)
 
-unfoldable pub column : List Float → Place → Float
-column l (Knot k) = at l k
-column l (Between k t) = blend (at l k) (at l (k + 1)) t
+unfoldable pub valueAt : List Float → Place → Float
+valueAt l (Knot k) = at l k
+valueAt l (Between k t) = blend (at l k) (at l (k + 1)) t

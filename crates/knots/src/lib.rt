@@ -1,7 +1,8 @@
-// Columns of up to sixteen knots, and where an edge width lies among them.
+// Up to sixteen knots as arrays of widths, gains and residuals, and where an edge width lies among them.
 ghost use mathlib.Core.Path.{_≡_};
 ghost use Prim.Native.Nat.{_<_, _≤_};
-ghost use Rattle.knots.specs.Places.{every, risesAt, sound, between, place, Inside, blend, column};
+ghost use Rattle.knots.specs.Places.{every, risesAt, placeFrom, place, blend, valueAt};
+ghost use Rattle.knots.specs.Loops.{sound, Inside};
 
 // The width of an edge, px.
 pub enum Width {
@@ -30,7 +31,8 @@ pub fn rises(widths: &[f32; 16], n: usize) -> bool
 }
 
 // Whether each of the first n widths is above the one before it, and each of the first n knots' numbers is in the range of knots:
-// one loop without a jump. Before the first width stands a NaN, which no float is at or below; a NaN among the widths is out of range.
+// one loop without a jump. Before the first width stands a NaN, which no float is at or below; a NaN among the widths is out
+// of range.
 pub fn rises_in_range(
     widths: &[f32; 16],
     gains: &[f32; 16],
@@ -59,7 +61,7 @@ pub fn rises_in_range(
 // The place of w, which is above the first knot, among the first knot and the n after it.
 fn between_knots(widths: &[f32; 16], w: f32, n: usize) -> Place
     requires { ⌜ n < 16 ⌝ }
-    ensures { λ r. ⌜ r ≡ between (now (widths .entry)) w 0 n ⌝ }
+    ensures { λ r. ⌜ r ≡ placeFrom (now (widths .entry)) w 0 n ⌝ }
 {
     let mut k = 0;
     while k < n {
@@ -89,10 +91,10 @@ pub fn place_of(widths: &[f32; 16], count: usize, width: Width) -> Place
     }
 }
 
-// A column's number at a place.
+// A gain or residual at a place.
 pub fn interpolated(values: &[f32; 16], p: Place) -> f32
     requires { ⌜ Inside 16 p ⌝ }
-    ensures { λ r. ⌜ r ≡ column (now (values .entry)) p ⌝ }
+    ensures { λ r. ⌜ r ≡ valueAt (now (values .entry)) p ⌝ }
 {
     match p {
         Place::Knot(k) => values[k],

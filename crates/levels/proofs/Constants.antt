@@ -2,24 +2,16 @@
 use mathlib.Core.Path.{_≡_, refl}
 use mathlib.Core.Bool.{false}
 use lib.Ieee.{binary32, ofBits, ofInt, round}
-use Rattle.levels.specs.Whole.{whole}
+use Rattle.ieee.specs.Numbers.{f32Of}
 
-pub zero-is : ofBits binary32 0 ≡ whole 0
+pub zero-is : ofBits binary32 0 ≡ f32Of 0
 unfolding ofBits ofInt
 zero-is = refl
 
-pub one-is : ofBits binary32 0x3f80_0000 ≡ whole 1
+pub one-is : ofBits binary32 0x3f80_0000 ≡ f32Of 1
 unfolding ofBits ofInt
 one-is = refl
 
 pub fifth-is : ofBits binary32 0x3e4c_cccd ≡ round binary32 false 1 5
 unfolding ofBits round
 fifth-is = refl
-
-pub half-is : ofBits binary32 0x3f00_0000 ≡ round binary32 false 1 2
-unfolding ofBits round
-half-is = refl
-
-pub eight-is : ofBits binary32 0x4100_0000 ≡ whole 8
-unfolding ofBits ofInt
-eight-is = refl

@@ -9,7 +9,7 @@ use lib.ListN.{length, getD, drop, drop-of-length-le}
 use lib.Seq.{drop-cons}
 use Rattle.laws.specs.Lists.{from}
 use Rattle.laws.proofs.Fill.{from-get}
-use Rattle.levels.specs.Kept.{kept}
+use Rattle.levels.specs.Filtered.{filtered}
 
 pub record Folding {A B : Type 0} (step : B → A → B) (l : List A) (start now : B) (k : ℕ) : Type 0 where
   pub low : k ≤ length l
@@ -39,12 +39,12 @@ module _ {A B C : Type 0} where
   foldl-map step f b (x ∷ l) = foldl-map step f (step b (f x)) l
 
 module _ {A B : Type 0} where
-  pub foldl-kept : (step : B → A → B) (p : A → Bool) (b : B) (l : List A) → foldl (λ a x. cond (p x) (step a x) a) b l ≡ foldl step b (kept p l)
-  foldl-kept step p b [] = refl
-  foldl-kept step p b (x ∷ l) = go (p x) (foldl-kept step p (step b x) l) (foldl-kept step p b l)
+  pub foldl-filtered : (step : B → A → B) (p : A → Bool) (b : B) (l : List A) → foldl (λ a x. cond (p x) (step a x) a) b l ≡ foldl step b (filtered p l)
+  foldl-filtered step p b [] = refl
+  foldl-filtered step p b (x ∷ l) = go (p x) (foldl-filtered step p (step b x) l) (foldl-filtered step p b l)
     where
-      go : (t : Bool) → foldl (λ a y. cond (p y) (step a y) a) (step b x) l ≡ foldl step (step b x) (kept p l) → foldl (λ a y. cond (p y) (step a y) a) b l ≡ foldl step b (kept p l)
-          → foldl (λ a y. cond (p y) (step a y) a) (cond t (step b x) b) l ≡ foldl step b (cond t (x ∷ kept p l) (kept p l))
+      go : (t : Bool) → foldl (λ a y. cond (p y) (step a y) a) (step b x) l ≡ foldl step (step b x) (filtered p l) → foldl (λ a y. cond (p y) (step a y) a) b l ≡ foldl step b (filtered p l)
+          → foldl (λ a y. cond (p y) (step a y) a) (cond t (step b x) b) l ≡ foldl step b (cond t (x ∷ filtered p l) (filtered p l))
       go true h g = h
       go false h g = g
 
@@ -57,8 +57,8 @@ foldl-count n (x ∷ l) = foldl-count (n + 1) l ∙ go n (length l)
     go n k = omega arith
 
 -- the kept elements are as many as a count of those that pass
-pub count-kept : {A : Type 0} (p : A → Bool) (l : List A) → foldl (λ a x. cond (p x) (a + 1) a) 0 l ≡ length (kept p l)
-count-kept p l = foldl-kept (λ a x. a + 1) p 0 l ∙ foldl-count 0 (kept p l) ∙ go (length (kept p l))
+pub count-filtered : {A : Type 0} (p : A → Bool) (l : List A) → foldl (λ a x. cond (p x) (a + 1) a) 0 l ≡ length (filtered p l)
+count-filtered p l = foldl-filtered (λ a x. a + 1) p 0 l ∙ foldl-count 0 (filtered p l) ∙ go (length (filtered p l))
   where
     go : (n : ℕ) → 0 + n ≡ n
     go n = omega arith

@@ -1,7 +1,7 @@
 pub mod Constants
+pub mod Clears
 pub mod Folds
 pub mod Contrasts
-pub mod Largests
 pub mod Wholes
 pub mod Sums
 pub mod Ends

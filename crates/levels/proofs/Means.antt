@@ -7,10 +7,10 @@ use native.Mathlib.Omega.{arith}
 use lib.ListN.{length, getD}
 use lib.Ieee.{Float, nan, binary32, add, div}
 use Rattle.laws.proofs.Choice.{chosen, passed}
-use Rattle.levels.specs.Whole.{whole}
-use Rattle.levels.specs.Kept.{kept}
-use Rattle.levels.specs.Levels.{total, mean}
-use Rattle.levels.proofs.Folds.{Folding, fold-start, fold-put, fold-end, foldl-kept, count-kept}
+use Rattle.ieee.specs.Numbers.{f32Of}
+use Rattle.levels.specs.Filtered.{filtered}
+use Rattle.levels.specs.Levels.{summed, meanOf}
+use Rattle.levels.proofs.Folds.{Folding, fold-start, fold-put, fold-end, foldl-filtered, count-filtered}
 use Rattle.levels.proofs.Wholes.{add-whole}
 
 -- the first m values taken in, of which n pass
@@ -18,7 +18,7 @@ pub record Summing (p : Float → Bool) (l : List Float) (sum n m : ℕ) : Type 
   pub low : m ≤ 81
   pub small : sum ≤ m * 65280
   pub few : n ≤ m
-  pub fold : Folding (λ a v. cond (p v) (add binary32 a v) a) l (whole 0) (whole sum) m
+  pub fold : Folding (λ a v. cond (p v) (add binary32 a v) a) l (f32Of 0) (f32Of sum) m
   pub count : Folding (λ a v. cond (p v) (a + 1) a) l 0 n m
 
 pub begin : (p : Float → Bool) (l : List Float) → Summing p l 0 0 0
@@ -29,15 +29,15 @@ module _ {p : Float → Bool} {l : List Float} {sum n m : ℕ} (s : Summing p l 
     abbrev next : Float
     next = getD l m nan
 
-    pub taken : {k sum′ n′ : ℕ} → next ≡ whole k → k ≤ 65280 → p next ≡ true → sum′ ≡ sum + k → n′ ≡ n + 1 → Summing p l sum′ n′ (m + 1)
+    pub taken : {k sum′ n′ : ℕ} → next ≡ f32Of k → k ≤ 65280 → p next ≡ true → sum′ ≡ sum + k → n′ ≡ n + 1 → Summing p l sum′ n′ (m + 1)
     taken {k} {sum′} x q t e f = record {
       low = omega arith;
       small = omega (arith, s .small);
       few = omega (arith, s .few);
       fold =
           fold-put nan (s .fold) (omega arith)
-          (ap whole e ∙ sym (add-whole binary32 sum k (omega (arith, s .small)) (omega arith)) ∙ ap (add binary32 (whole sum)) (sym x)
-          ∙ chosen (p next) (add binary32 (whole sum) next) (whole sum) t);
+          (ap f32Of e ∙ sym (add-whole binary32 sum k (omega (arith, s .small)) (omega arith)) ∙ ap (add binary32 (f32Of sum)) (sym x)
+          ∙ chosen (p next) (add binary32 (f32Of sum) next) (f32Of sum) t);
       count = fold-put nan (s .count) (omega arith) (f ∙ chosen (p next) (n + 1) n t);
     }
 
@@ -46,11 +46,11 @@ module _ {p : Float → Bool} {l : List Float} {sum n m : ℕ} (s : Summing p l 
       low = omega arith;
       small = omega (arith, s .small);
       few = omega (arith, s .few);
-      fold = fold-put nan (s .fold) (omega arith) (ap whole e ∙ passed (p next) (add binary32 (whole sum) next) (whole sum) t);
+      fold = fold-put nan (s .fold) (omega arith) (ap f32Of e ∙ passed (p next) (add binary32 (f32Of sum) next) (f32Of sum) t);
       count = fold-put nan (s .count) (omega arith) (f ∙ passed (p next) (n + 1) n t);
     }
 
-  pub done : length l ≤ m → div binary32 (whole sum) (whole (max n 1)) ≡ mean (kept p l)
+  pub done : length l ≤ m → div binary32 (f32Of sum) (f32Of (max n 1)) ≡ meanOf (filtered p l)
   done h =
-      ap (λ (z : Float). div binary32 z (whole (max n 1))) (fold-end (s .fold) h ∙ foldl-kept (add binary32) p (whole 0) l)
-      ∙ ap (λ (k : ℕ). div binary32 (total (kept p l)) (whole (max k 1))) (fold-end (s .count) h ∙ count-kept p l)
+      ap (λ (z : Float). div binary32 z (f32Of (max n 1))) (fold-end (s .fold) h ∙ foldl-filtered (add binary32) p (f32Of 0) l)
+      ∙ ap (λ (k : ℕ). div binary32 (summed (filtered p l)) (f32Of (max k 1))) (fold-end (s .count) h ∙ count-filtered p l)

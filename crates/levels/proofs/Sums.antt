@@ -12,13 +12,13 @@ use lib.Ieee.{Float, nan, inf, fin, binary32, up, down, add, lt, isNan, ofInt, r
 use lib.Ieee.Exact.{HasValue}
 use lib.Ieee.Fits.{down-pos}
 use Rattle.ieee.specs.Order.{larger, smaller}
-use Rattle.levels.specs.Whole.{whole}
+use Rattle.ieee.specs.Numbers.{f32Of}
 use Rattle.levels.specs.Clear.{clear}
-use Rattle.levels.specs.Levels.{total}
+use Rattle.levels.specs.Levels.{summed}
 use Rattle.levels.specs.Adding.{Adding, one, both, exactly, inFloats}
 use Rattle.levels.proofs.Wholes.{whole-value, add-whole}
 
-pub sum-exact : (a : Adding) → exactly a ≤ 2 ^ 24 → inFloats a ≡ whole (exactly a)
+pub sum-exact : (a : Adding) → exactly a ≤ 2 ^ 24 → inFloats a ≡ f32Of (exactly a)
 sum-exact (one n) h = refl
 sum-exact (both a b) h =
     let p = sum-exact a (omega arith) in
@@ -26,14 +26,14 @@ sum-exact (both a b) h =
     rw (p, q) (add-whole binary32 (exactly a) (exactly b) (omega arith) (omega arith))
 
 pub any-order : (a b : Adding) → exactly a ≡ exactly b → exactly a ≤ 2 ^ 24 → inFloats a ≡ inFloats b
-any-order a b e h = sum-exact a h ∙ ap whole e ∙ sym (sum-exact b (subst (λ (n : ℕ). n ≤ 2 ^ 24) e h))
+any-order a b e h = sum-exact a h ∙ ap f32Of e ∙ sym (sum-exact b (subst (λ (n : ℕ). n ≤ 2 ^ 24) e h))
 
 -- from the first to the last
 abbrev inTurn : Adding → List ℕ → Adding
 inTurn a [] = a
 inTurn a (n ∷ l) = inTurn (both a (one n)) l
 
-in-turn : (a : Adding) (l : List ℕ) → foldl (add binary32) (inFloats a) (map whole l) ≡ inFloats (inTurn a l)
+in-turn : (a : Adding) (l : List ℕ) → foldl (add binary32) (inFloats a) (map f32Of l) ≡ inFloats (inTurn a l)
 in-turn a [] = refl
 in-turn a (n ∷ l) = in-turn (both a (one n)) l
 
@@ -48,14 +48,14 @@ exactly-turn a (n ∷ l) = exactly-turn (both a (one n)) l ∙ go (exactly a) n 
     go : (a n k : ℕ) → a + n + k ≡ a + (n + k)
     go a n k = omega arith
 
-pub total-exact : (l : List ℕ) → addUp l ≤ 2 ^ 24 → total (map whole l) ≡ whole (addUp l)
-total-exact l h = in-turn (one 0) l ∙ sum-exact (inTurn (one 0) l) (omega (arith, exactly-turn (one 0) l)) ∙ ap whole (exactly-turn (one 0) l ∙ go (addUp l))
+pub summed-exact : (l : List ℕ) → addUp l ≤ 2 ^ 24 → summed (map f32Of l) ≡ f32Of (addUp l)
+summed-exact l h = in-turn (one 0) l ∙ sum-exact (inTurn (one 0) l) (omega (arith, exactly-turn (one 0) l)) ∙ ap f32Of (exactly-turn (one 0) l ∙ go (addUp l))
   where
     go : (n : ℕ) → 0 + n ≡ n
     go n = omega arith
 
-pub total-any-order : (l : List ℕ) (a : Adding) → exactly a ≡ addUp l → addUp l ≤ 2 ^ 24 → inFloats a ≡ total (map whole l)
-total-any-order l a e h = sum-exact a (omega arith) ∙ ap whole e ∙ sym (total-exact l h)
+pub summed-any-order : (l : List ℕ) (a : Adding) → exactly a ≡ addUp l → addUp l ≤ 2 ^ 24 → inFloats a ≡ summed (map f32Of l)
+summed-any-order l a e h = sum-exact a (omega arith) ∙ ap f32Of e ∙ sym (summed-exact l h)
 
 -- ---- the order of whole numbers is that of their floats
 
@@ -85,8 +85,8 @@ less-at (fin false m e) (fin false n d) a b g h =
         go true t = lt-ltb (a * c) (b * c) (mul-lt-mul-of-pos-right (ltb-true a b t) C)
         go false t = le-ltb (a * c) (b * c) (mul-le-mul-right c (ltb-false a b t))
 
-pub less-whole : (a b : ℕ) → a ≤ 2 ^ 24 → b ≤ 2 ^ 24 → lt (whole a) (whole b) ≡ ltb a b
-less-whole a b p q = less-at (whole a) (whole b) a b (whole-value binary32 a p) (whole-value binary32 b q)
+pub less-whole : (a b : ℕ) → a ≤ 2 ^ 24 → b ≤ 2 ^ 24 → lt (f32Of a) (f32Of b) ≡ ltb a b
+less-whole a b p q = less-at (f32Of a) (f32Of b) a b (whole-value binary32 a p) (whole-value binary32 b q)
 
 number : (x : Float) (a : ℕ) → HasValue x false a 1 → isNan x ≡ false
 unfolding isNan
@@ -94,41 +94,41 @@ number nan a g = absurd g
 number (inf s) a g = absurd g
 number (fin s m e) a g = refl
 
-pub larger-whole : (a b : ℕ) → a ≤ 2 ^ 24 → b ≤ 2 ^ 24 → larger (whole a) (whole b) ≡ whole (max a b)
+pub larger-whole : (a b : ℕ) → a ≤ 2 ^ 24 → b ≤ 2 ^ 24 → larger (f32Of a) (f32Of b) ≡ f32Of (max a b)
 unfolding larger
 larger-whole a b p q =
-    ap (λ (t : Bool). cond t (whole b) (cond (lt (whole a) (whole b)) (whole b) (whole a))) (number (whole a) a (whole-value binary32 a p))
-    ∙ ap (λ (t : Bool). cond t (whole b) (whole a)) (less-whole a b p q) ∙ go (ltb a b) refl
+    ap (λ (t : Bool). cond t (f32Of b) (cond (lt (f32Of a) (f32Of b)) (f32Of b) (f32Of a))) (number (f32Of a) a (whole-value binary32 a p))
+    ∙ ap (λ (t : Bool). cond t (f32Of b) (f32Of a)) (less-whole a b p q) ∙ go (ltb a b) refl
   where
-    go : (t : Bool) → ltb a b ≡ t → cond t (whole b) (whole a) ≡ whole (max a b)
-    go true t = ap whole (most a b (ltb-true a b t))
+    go : (t : Bool) → ltb a b ≡ t → cond t (f32Of b) (f32Of a) ≡ f32Of (max a b)
+    go true t = ap f32Of (most a b (ltb-true a b t))
       where
         most : (a b : ℕ) → a < b → b ≡ max a b
         most a b h = omega arith
-    go false t = ap whole (most a b (ltb-false a b t))
+    go false t = ap f32Of (most a b (ltb-false a b t))
       where
         most : (a b : ℕ) → b ≤ a → a ≡ max a b
         most a b h = omega arith
 
-pub smaller-whole : (a b : ℕ) → a ≤ 2 ^ 24 → b ≤ 2 ^ 24 → smaller (whole a) (whole b) ≡ whole (min a b)
+pub smaller-whole : (a b : ℕ) → a ≤ 2 ^ 24 → b ≤ 2 ^ 24 → smaller (f32Of a) (f32Of b) ≡ f32Of (min a b)
 unfolding smaller
 smaller-whole a b p q =
-    ap (λ (t : Bool). cond t (whole b) (cond (lt (whole b) (whole a)) (whole b) (whole a))) (number (whole a) a (whole-value binary32 a p))
-    ∙ ap (λ (t : Bool). cond t (whole b) (whole a)) (less-whole b a q p) ∙ go (ltb b a) refl
+    ap (λ (t : Bool). cond t (f32Of b) (cond (lt (f32Of b) (f32Of a)) (f32Of b) (f32Of a))) (number (f32Of a) a (whole-value binary32 a p))
+    ∙ ap (λ (t : Bool). cond t (f32Of b) (f32Of a)) (less-whole b a q p) ∙ go (ltb b a) refl
   where
-    go : (t : Bool) → ltb b a ≡ t → cond t (whole b) (whole a) ≡ whole (min a b)
-    go true t = ap whole (least a b (ltb-true b a t))
+    go : (t : Bool) → ltb b a ≡ t → cond t (f32Of b) (f32Of a) ≡ f32Of (min a b)
+    go true t = ap f32Of (least a b (ltb-true b a t))
       where
         least : (a b : ℕ) → b < a → b ≡ min a b
         least a b h = omega arith
-    go false t = ap whole (least a b (ltb-false b a t))
+    go false t = ap f32Of (least a b (ltb-false b a t))
       where
         least : (a b : ℕ) → a ≤ b → a ≡ min a b
         least a b h = omega arith
 
 -- ---- a sum of clear numbers may start at minus zero, as the original's does: the first number added leaves no trace of it
 
-pub from-minus-zero : (x : Float) → T (clear x) → add binary32 (fin true 0 (pos 0)) x ≡ add binary32 (whole 0) x
+pub from-minus-zero : (x : Float) → T (clear x) → add binary32 (fin true 0 (pos 0)) x ≡ add binary32 (f32Of 0) x
 unfolding add sum ofInt
 from-minus-zero nan p = absurd p
 from-minus-zero (inf true) p = absurd p

@@ -1,7 +1,7 @@
--- A way of adding numbers: which, in which order, and how they are grouped.
+-- Only for the law that sums of whole numbers are exact: a way of adding, which numbers, in which order, and how grouped.
 use Prim.Native.Nat.{ℕ, _+_}
 use lib.Ieee.{Float, binary32, add}
-use Rattle.levels.specs.Whole.{whole}
+use Rattle.ieee.specs.Numbers.{f32Of}
 
 pub data Adding : Type 0 where
   one : ℕ → Adding
@@ -13,5 +13,5 @@ exactly (one n) = n
 exactly (both a b) = exactly a + exactly b
 
 abbrev pub inFloats : Adding → Float
-inFloats (one n) = whole n
+inFloats (one n) = f32Of n
 inFloats (both a b) = add binary32 (inFloats a) (inFloats b)

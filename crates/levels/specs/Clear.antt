@@ -1,4 +1,4 @@
--- Floats that are numbers with the sign clear, an infinity among them: what a square is.
+-- What the code asks of squared gradients: numbers with the sign clear, an infinity among them.
 use mathlib.Core.Bool.{Bool, false, not}
 use mathlib.Core.List.{List}
 use lib.Dec.{T}

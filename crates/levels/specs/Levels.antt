@@ -5,15 +5,15 @@ use mathlib.Core.List.{List, foldl}
 use lib.ListN.{length}
 use lib.Ieee.{Float, inf, binary32, add, sub, mul, div, le, round}
 use Rattle.ieee.specs.Order.{larger, smaller}
-use Rattle.levels.specs.Kept.{kept}
-use Rattle.levels.specs.Whole.{whole}
+use Rattle.levels.specs.Filtered.{filtered}
+use Rattle.ieee.specs.Numbers.{f32Of}
 
 -- from the first to the last
-abbrev pub total : List Float → Float
-total l = foldl (add binary32) (whole 0) l
+abbrev pub summed : List Float → Float
+summed l = foldl (add binary32) (f32Of 0) l
 
-abbrev pub mean : List Float → Float
-mean l = div binary32 (total l) (whole (max (length l) 1))
+abbrev pub meanOf : List Float → Float
+meanOf l = div binary32 (summed l) (f32Of (max (length l) 1))
 
 abbrev pub highest : List Float → Float
 highest l = foldl larger (inf true) l
@@ -22,11 +22,11 @@ abbrev pub lowest : List Float → Float
 lowest l = foldl smaller (inf false) l
 
 -- a fifth of the range
-abbrev pub band : List Float → Float
-band l = mul binary32 (round binary32 false 1 5) (sub binary32 (highest l) (lowest l))
+abbrev pub fifth : List Float → Float
+fifth l = mul binary32 (round binary32 false 1 5) (sub binary32 (highest l) (lowest l))
 
 unfoldable pub highLevel : List Float → Float
-highLevel l = mean (kept (λ v. le (sub binary32 (highest l) (band l)) v) l)
+highLevel l = meanOf (filtered (λ v. le (sub binary32 (highest l) (fifth l)) v) l)
 
 unfoldable pub lowLevel : List Float → Float
-lowLevel l = mean (kept (λ v. le v (add binary32 (lowest l) (band l))) l)
+lowLevel l = meanOf (filtered (λ v. le v (add binary32 (lowest l) (fifth l))) l)

@@ -1,7 +1,6 @@
 pub mod Whole
-pub mod Kept
+pub mod Filtered
 pub mod Clear
 pub mod Levels
-pub mod Steepness
 pub mod Adding
-pub mod Slide
+pub mod Examples

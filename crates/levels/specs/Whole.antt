@@ -1,19 +1,15 @@
--- Whole numbers as floats.
+-- What the code asks of samples and of values: floats that are whole numbers.
 use mathlib.Core.Path.{_≡_}
 use mathlib.Core.List.{List}
 use Prim.Native.Nat.{ℕ, _≤_, _<_}
 use lib.ListN.{length, getD}
-use lib.IntN.{pos}
-use lib.Ieee.{Float, nan, binary32, ofInt}
-
--- n as an f32
-abbrev pub whole : ℕ → Float
-whole n = ofInt binary32 (pos n)
+use lib.Ieee.{Float, nan}
+use Rattle.ieee.specs.Numbers.{f32Of}
 
 -- x is one of 0 to most
 pub record Upto (most : ℕ) (x : Float) : Type 0 where
   pub number : ℕ
-  pub is : x ≡ whole number
+  pub is : x ≡ f32Of number
   pub small : number ≤ most
 
 -- 81 of them

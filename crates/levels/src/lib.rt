@@ -1,23 +1,17 @@
-// The levels of 81 values and the mean of the largest of 81 gradients: uncertainty.rs, parts of `PixelTile::edge_width`.
+// The levels of the disk's 81 values: uncertainty.rs, part of `PixelTile::edge_width`.
 ghost use mathlib.Core.Path.{_≡_};
 ghost use Prim.Native.Nat.{_^_, _≤_, max, min};
-ghost use mathlib.Core.List.{[], _∷_, map};
-ghost use lib.Dec.{T};
-ghost use lib.ListN.{length, drop};
+ghost use mathlib.Core.List.{[], _∷_};
 ghost use lib.Ieee.{binary32, sub, div, le};
-ghost use Rattle.ieee.specs.Sqrt.{sqrt};
-ghost use Rattle.quantile.specs.Rising.{inserted, Rises};
-ghost use Rattle.levels.specs.Whole.{whole, Upto, AllUpto};
-ghost use Rattle.levels.specs.Kept.{kept};
-ghost use Rattle.levels.specs.Clear.{clear, AllClear};
+ghost use Rattle.ieee.specs.Numbers.{f32Of};
+ghost use Rattle.levels.specs.Whole.{Upto, AllUpto};
+ghost use Rattle.levels.specs.Filtered.{filtered};
 ghost use Rattle.levels.specs.Levels as Levels;
-ghost use Rattle.levels.specs.Steepness as Steepness;
-ghost use Rattle.levels.specs.Slide as Slide;
 
 // v, which is a whole number.
 fn number(v: f32) -> u32
     requires { ⌜ Upto 65280 v ⌝ }
-    ensures { λ r. ⌜ (v ≡ whole r) × (r ≤ 65280) ⌝ }
+    ensures { λ r. ⌜ (v ≡ f32Of r) × (r ≤ 65280) ⌝ }
 {
     (v as i32) as u32
 }
@@ -55,7 +49,7 @@ fn extremes(values: &[f32; 81]) -> [f32; 2]
 // sum over n, or over 1 where n is 0.
 fn mean(sum: u32, n: u32) -> f32
     requires { ⌜ (sum ≤ 2 ^ 24) × (n ≤ 81) ⌝ }
-    ensures { λ r. ⌜ r ≡ div binary32 (whole sum) (whole (max n 1)) ⌝ }
+    ensures { λ r. ⌜ r ≡ div binary32 (f32Of sum) (f32Of (max n 1)) ⌝ }
 {
     let total = sum as f32;
     if n == 0 {
@@ -67,7 +61,7 @@ fn mean(sum: u32, n: u32) -> f32
 // The mean of the values from the cut up. They are added as whole numbers, as f32 would add them.
 fn mean_from(values: &[f32; 81], cut: f32) -> f32
     requires { ⌜ AllUpto 65280 (now values) ⌝ }
-    ensures { λ r. ⌜ r ≡ Levels.mean (kept (λ v. le cut v) (now (values .entry))) ⌝ }
+    ensures { λ r. ⌜ r ≡ Levels.meanOf (filtered (λ v. le cut v) (now (values .entry))) ⌝ }
 {
     let mut sum: u32 = 0;
     let mut n: u32 = 0;
@@ -86,7 +80,7 @@ fn mean_from(values: &[f32; 81], cut: f32) -> f32
 // The mean of the values up to the cut.
 fn mean_upto(values: &[f32; 81], cut: f32) -> f32
     requires { ⌜ AllUpto 65280 (now values) ⌝ }
-    ensures { λ r. ⌜ r ≡ Levels.mean (kept (λ v. le v cut) (now (values .entry))) ⌝ }
+    ensures { λ r. ⌜ r ≡ Levels.meanOf (filtered (λ v. le v cut) (now (values .entry))) ⌝ }
 {
     let mut sum: u32 = 0;
     let mut n: u32 = 0;
@@ -112,77 +106,4 @@ pub fn contrast(values: &[f32; 81]) -> f32
     let least = e[1];
     let band = 0.2 * (most - least);
     mean_from(values, most - band) - mean_upto(values, least + band)
-}
-
-// The larger of v and y.
-fn above(v: f32, y: f32) -> f32
-    ensures { λ r. ⌜ r ≡ Slide.above v y ⌝ }
-{
-    if v < y { y } else { v }
-}
-
-// The middle one of v, y and x, where y is not above x.
-fn between(v: f32, y: f32, x: f32) -> f32
-    ensures { λ r. ⌜ r ≡ Slide.between v y x ⌝ }
-{
-    let most = above(v, y);
-    if v < x { most } else { x }
-}
-
-// v among the eight largest so far, which rise; the smallest falls out. One jump turns on the numbers.
-fn insert(top: &mut [f32; 8], v: f32)
-    requires { ⌜ (length (now top) ≡ 8) × AllClear (now top) × T (clear v) × Rises (now top) ⌝ }
-    ensures { λ _. ⌜ now (top .exit) ≡ drop 1 (inserted v (now (top .entry))) ⌝ }
-{
-    let first = top[0];
-    if v < first {
-        return;
-    }
-    let mut j = 0;
-    while j < 7 {
-        let y = top[j];
-        let x = top[j + 1];
-        top[j] = between(v, y, x);
-        j += 1;
-    }
-    let last = top[7];
-    top[7] = above(v, last);
-}
-
-// The eight largest, the smallest of them first.
-fn largest(gradients: &[f32; 81]) -> [f32; 8]
-    requires { ⌜ (length (now gradients) ≡ 81) × AllClear (now gradients) ⌝ }
-    ensures { λ r. ⌜ r ≡ Steepness.largest (now (gradients .entry)) ⌝ }
-{
-    let mut top = [0.0f32; 8];
-    let mut m = 0;
-    while m < 81 {
-        let v = gradients[m];
-        insert(&mut top, v);
-        m += 1;
-    }
-    top
-}
-
-// The roots, added from the first on.
-fn add_roots(top: &[f32; 8]) -> f32
-    requires { ⌜ length (now top) ≡ 8 ⌝ }
-    ensures { λ r. ⌜ r ≡ Levels.total (map (sqrt binary32) (now (top .entry))) ⌝ }
-{
-    let mut sum = 0.0f32;
-    let mut k = 0;
-    while k < 8 {
-        sum = sum + roots::sqrt32(top[k]);
-        k += 1;
-    }
-    sum
-}
-
-// The gradient mean.
-pub fn steepness(gradients: &[f32; 81]) -> f32
-    requires { ⌜ (length (now gradients) ≡ 81) × AllClear (now gradients) ⌝ }
-    ensures { λ r. ⌜ r ≡ Steepness.steepness (now (gradients .entry)) ⌝ }
-{
-    let top = largest(gradients);
-    0.5 * add_roots(&top) / 8.0
 }

@@ -1,4 +1,2 @@
-pub mod Inputs
 pub mod Answers
-pub mod Reports
 pub mod Reading

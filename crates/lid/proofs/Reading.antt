@@ -10,14 +10,15 @@ use lib.Seq.{slice, take-all, take-take}
 use borrow.Author.Tests.{ltb-false, ltb-true}
 use Rattle.little_endian.specs.Bytes.{valueOf}
 use Rattle.noise.specs.Call.{refused}
-use Rattle.lid.specs.Input.{number, mostPixels, inputBytes, pixelsOf, parsedOf}
+use Rattle.lid_bytes.specs.declared.Input.the-variants.{Refused}
+use Rattle.lid_bytes.specs.Input.{mostPixels, inputBytes, pixelsOf, parsedOf}
 use Rattle.lid.specs.Answer.{answerBy, lidAnswer}
-use Rattle.lid.proofs.Inputs.{too-many, unlike}
+use Rattle.lid_bytes.proofs.Inputs.{too-many, unlike}
 
 same-slice : (f t n : ℕ) (l : List ℕ) → t ≤ n → slice f t l ≡ slice f t (take n l)
 same-slice f t n l h = ap (λ (m : List ℕ). drop f m) (sym (take-take t n l h))
 
-as-number : (input : List ℕ) (k : ℕ) → number k ≡ parsedOf input → lidAnswer input ≡ refused k
+as-number : (input : List ℕ) (k : ℕ) → Refused k ≡ parsedOf input → lidAnswer input ≡ refused k
 unfolding lidAnswer
 as-number input k e = ap (answerBy (pixelsOf input)) (sym e)
 

@@ -3,9 +3,9 @@ use libc::STDIN_FILENO;
 use libc::STDOUT_FILENO;
 
 fn main() {
-    let mut input = lid::input_room();
+    let mut input = lid_bytes::input_room();
     let n = io::read_full(STDIN_FILENO, &mut input);
-    let mut out = lid::report_room();
+    let mut out = lid_bytes::report_room();
     let k = lid::lidnoise(&input[..n], &mut out);
     io::write_all(STDOUT_FILENO, &out[..k]);
 }

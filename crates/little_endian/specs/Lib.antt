@@ -1,2 +1,3 @@
 -- Whole numbers as bytes.
 pub mod Bytes
+pub mod Examples

@@ -1,7 +1,8 @@
 -- Sigmas whose product by 1,000 in f32 is rounded up to the next whole number, and what is said at the ends.
 use mathlib.Core.Path.{_≡_, refl}
 use Prim.Native.Nat.{ℕ}
-use lib.Ieee.{ofBits, mul, toUnsigned, binary32}
+use mathlib.Core.Bool.{true, false}
+use lib.Ieee.{nan, inf, ofBits, mul, toUnsigned, binary32}
 use Rattle.milli.specs.Thousandths.{milliOf}
 
 -- 1,000 times the f32 with the pattern b, rounded to an f32 and cut
@@ -43,3 +44,9 @@ fits-still = refl
 fits-no-more : milliOf (ofBits binary32 0x4a83_126f) ≡ 4294967295
 unfolding milliOf ofBits toUnsigned mul
 fits-no-more = refl
+
+-- a NaN and what is below zero give 0, minus zero too; infinity gives the largest
+pub below-zero : (milliOf nan ≡ 0) × (milliOf (inf true) ≡ 0) × (milliOf (ofBits binary32 0xbf80_0000) ≡ 0)
+    × (milliOf (ofBits binary32 0x8000_0000) ≡ 0) × (milliOf (inf false) ≡ 4294967295)
+unfolding milliOf ofBits
+below-zero = (refl, refl, refl, refl, refl)

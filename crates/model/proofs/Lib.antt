@@ -2,4 +2,6 @@
 pub mod Formulas
 pub mod Refusals
 pub mod Laws
+pub mod Answering
 pub mod Examples
+pub mod Orders

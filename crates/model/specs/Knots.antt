@@ -1,41 +1,55 @@
 -- Which tables of knots are taken, and what they give at a width.
 use Prim.Native.Nat.{ℕ, _-_}
-use mathlib.Core.Bool.{Bool, cond, _&&_}
+use mathlib.Core.Bool.{Bool, cond, not, _&&_}
 use mathlib.Core.List.{List}
 use lib.Dec.{leb, ltb, eqb}
 use lib.Ieee.{Float}
-use Rattle.ranges.specs.Arith.{plusZero}
+use Rattle.ieee.specs.Numbers.{plusZero}
 use Rattle.ranges.specs.Ranges.{upTo}
 use Rattle.knots.specs.declared.Width.{Width}
-use Rattle.knots.specs.Places.{every, risesAt, knotAt, place, column}
+use Rattle.knots.specs.Places.{every, risesAt, knotAt, place, valueAt}
 use Rattle.model.specs.declared.SystematicModel.{SystematicModel}
 use Rattle.model.specs.declared.At.{At}
+use Rattle.model.specs.declared.At.the-variants.{Given, Refused}
 
 -- a table of n knots
 abbrev pub table : ℕ → Float → List Float → List Float → List Float → SystematicModel
 table n f l g r = record { widths = l; gains = g; residuals = r; count = n; floor = f }
 
 -- one to sixteen knots, each width above the one before it
-abbrev pub rising : List Float → ℕ → Bool
-rising widths n = (ltb 0 n && leb n 16) && every (risesAt widths) (n - 1)
+abbrev pub rising : SystematicModel → Bool
+rising s = (ltb 0 (s .count) && leb (s .count) 16) && every (risesAt (s .widths)) (s .count - 1)
 
 -- the counted knots' numbers and the floor are in their ranges
-abbrev pub ranged : SystematicModel → Bool
-ranged s = ((every (knotAt (s .widths)) (s .count) && every (knotAt (s .gains)) (s .count)) && every (knotAt (s .residuals)) (s .count)) && upTo 1000 (s .floor)
+abbrev pub knotsInRange : SystematicModel → Bool
+knotsInRange s =
+    ((every (knotAt (s .widths)) (s .count) && every (knotAt (s .gains)) (s .count)) && every (knotAt (s .residuals)) (s .count))
+    && upTo 1000 (s .floor)
 
 -- 14: no knot, over 16, or widths that don't rise strictly; then 12
 unfoldable pub knotsNumber : SystematicModel → ℕ
-knotsNumber s = cond (rising (s .widths) (s .count)) (cond (ranged s) 0 12) 14
+knotsNumber s = cond (not (rising s)) 14 (cond (not (knotsInRange s)) 12 0)
 
--- zeros under a number
-abbrev pub noKnots : ℕ → At
-noKnots n = record { number = n; gain = plusZero; residual = plusZero }
+abbrev pub gainAt : SystematicModel → Width → Float
+gainAt s w = valueAt (s .gains) (place (s .widths) (s .count) w)
 
--- each column at the width, of n knots
-unfoldable pub found : List Float → List Float → List Float → ℕ → Width → At
-unfolding place column
-found widths gains residuals n w = record { number = 0; gain = column gains (place widths n w); residual = column residuals (place widths n w) }
+abbrev pub residualAt : SystematicModel → Width → Float
+residualAt s w = valueAt (s .residuals) (place (s .widths) (s .count) w)
 
 unfoldable pub atOf : SystematicModel → Width → At
-unfolding knotsNumber found
-atOf s w = cond (eqb (knotsNumber s) 0) (found (s .widths) (s .gains) (s .residuals) (s .count) w) (noKnots (knotsNumber s))
+unfolding knotsNumber place valueAt
+atOf s w = cond (eqb (knotsNumber s) 0) (Given (gainAt s w) (residualAt s w)) (Refused (knotsNumber s))
+
+-- ---- what the desk reads of an answer: its number, and its figures, zeros where there are none
+
+abbrev pub atNumber : At → ℕ
+atNumber (Given g r) = 0
+atNumber (Refused n) = n
+
+abbrev pub atGain : At → Float
+atGain (Given g r) = g
+atGain (Refused n) = plusZero
+
+abbrev pub atResidual : At → Float
+atResidual (Given g r) = r
+atResidual (Refused n) = plusZero

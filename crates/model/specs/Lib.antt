@@ -1,3 +1,5 @@
 pub mod Knots
 pub mod Systematic
 pub mod Model
+pub mod Answers
+pub mod Helpers

@@ -1,10 +1,12 @@
--- The systematic covariance of an estimate at an offset from the centre of its fit window, with gain g, residual rho and a floor.
+-- The systematic covariance of an estimate at an offset u from the centre of its fit window, line by line as
+-- `SystematicModel::model` writes it.
 use mathlib.Core.Bool.{cond}
 use mathlib.Core.List.{List}
 use lib.Ieee.{Float, le}
+use Rattle.ieee.specs.Numbers.{plusZero}
 use Rattle.refine.specs.Covariance.{covariance}
 use Rattle.refine.specs.declared.PositionCovariance.{PositionCovariance}
-use Rattle.ranges.specs.Arith.{_⊕_, _⊖_, _⊗_, _⊘_, at, plusZero, twelve}
+use Rattle.ranges.specs.Arith.{_⊕_, _⊖_, _⊗_, _⊘_, at, twelve}
 
 -- the variance of a quantity spread uniformly over an interval
 abbrev pub uniformVariance : Float → Float
@@ -14,17 +16,16 @@ uniformVariance width = width ⊗ width ⊘ twelve
 unfoldable pub about : Float → Float → Float → PositionCovariance
 about ex ey spread = covariance (ex ⊗ ex ⊕ spread) (ex ⊗ ey) (ey ⊗ ey ⊕ spread)
 
--- how much of an offset u is error
-abbrev pub error : Float → Float → Float
-error shrink u = u ⊖ shrink ⊗ u
-
--- where the denominator is not above zero the estimate says nothing of the corner's place in its cell
-unfoldable pub shrunk : Float → Float → Float → Float → Float → List Float → PositionCovariance
-unfolding about
-shrunk g prior rho2 denom floor u =
-    cond (le denom plusZero) (about (at u 0) (at u 1) (prior ⊕ floor ⊗ floor))
-    (about (error (g ⊗ prior ⊘ denom) (at u 0)) (error (g ⊗ prior ⊘ denom) (at u 1)) (prior ⊗ rho2 ⊘ denom ⊕ floor ⊗ floor))
-
+-- from gain, residual, floor, offset and grid; the limit is where the estimate says nothing of the corner's place in its cell
 unfoldable pub systematic : Float → Float → Float → List Float → Float → PositionCovariance
-unfolding shrunk
-systematic g rho floor u grid = shrunk g (uniformVariance grid) (rho ⊗ rho) (g ⊗ g ⊗ uniformVariance grid ⊕ rho ⊗ rho) floor u
+unfolding about
+systematic g rho floor u grid =
+    let prior = uniformVariance grid in
+    let rho2 = rho ⊗ rho in
+    let denom = g ⊗ g ⊗ prior ⊕ rho2 in
+    let limit = le denom plusZero in
+    let shrink = g ⊗ prior ⊘ denom in
+    let ex = cond limit (at u 0) (at u 0 ⊖ shrink ⊗ at u 0) in
+    let ey = cond limit (at u 1) (at u 1 ⊖ shrink ⊗ at u 1) in
+    let spread = cond limit prior (prior ⊗ rho2 ⊘ denom) ⊕ floor ⊗ floor in
+    about ex ey spread

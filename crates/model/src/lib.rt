@@ -1,7 +1,8 @@
 // The systematic model of uncertainty.rs, and the covariance model that it makes, by value.
 ghost use mathlib.Core.Path.{_≡_};
 ghost use Prim.Native.Nat.{_<_, _≤_};
-ghost use Rattle.model.specs.Knots.{table, knotsNumber, found, atOf};
+ghost use Rattle.model.specs.Knots.{table, knotsNumber, atOf};
+ghost use Rattle.model.specs.Helpers.{pairAt};
 ghost use Rattle.model.specs.Systematic.{uniformVariance, about, systematic};
 ghost use Rattle.model.specs.Model.{refusal, modelOf};
 use covariance::CovarianceModel;
@@ -19,11 +20,15 @@ pub struct SystematicModel {
     pub floor: f32,
 }
 
-// What the knots give at a width, or zeros under the number that refuses them.
-pub struct At {
-    pub number: u32,
-    pub gain: f32,
-    pub residual: f32,
+// Gain and residual at a width, or the number that refuses the knots.
+pub enum At {
+    Given(f32, f32),
+    Refused(u32),
+}
+
+struct GainResidual {
+    gain: f32,
+    residual: f32,
 }
 
 // A model, or zeros under the number that refuses it.
@@ -95,13 +100,12 @@ fn at_knots(
     residuals: &[f32; 16],
     count: usize,
     width: Width,
-) -> At
+) -> GainResidual
     requires { ⌜ (0 < count) × (count ≤ 16) ⌝ }
-    ensures { λ r. ⌜ r ≡ found (now (widths .entry)) (now (gains .entry)) (now (residuals .entry)) count width ⌝ }
+    ensures { λ r. ⌜ r ≡ pairAt (now (widths .entry)) (now (gains .entry)) (now (residuals .entry)) count width ⌝ }
 {
     let p = knots::place_of(widths, count, width);
-    At {
-        number: 0,
+    GainResidual {
         gain: knots::interpolated(gains, p),
         residual: knots::interpolated(residuals, p),
     }
@@ -117,13 +121,10 @@ impl SystematicModel {
         let residuals = self.residuals;
         let number = knots_number(&widths, &gains, &residuals, self.count, self.floor);
         if number != 0 {
-            return At {
-                number,
-                gain: 0.0,
-                residual: 0.0,
-            };
+            return At::Refused(number);
         }
-        at_knots(&widths, &gains, &residuals, self.count, width)
+        let k = at_knots(&widths, &gains, &residuals, self.count, width);
+        At::Given(k.gain, k.residual)
     }
 
     // The covariance model of an estimate with noise term `noise`, at `offset` px from the centre of its fit window on a

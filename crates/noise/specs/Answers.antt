@@ -1,5 +1,5 @@
 -- The answer of one pass or two. Past the lists of figures nothing sees a pixel.
-use mathlib.Core.Bool.{cond, _||_}
+use mathlib.Core.Bool.{Bool, cond, _||_}
 use mathlib.Core.List.{List}
 use Prim.Native.Nat.{ℕ, _+_}
 use lib.Dec.{eqb}
@@ -25,9 +25,13 @@ endingIn p rounds passes =
       passes = passes;
     }
 
--- The first pass decides where it ends in 0 or its step s is 1; else the second does.
+-- the first pass decides where it ends in 0 or its step s is 1
+abbrev pub firstDecides : ℕ → Pass → Bool
+firstDecides s p = eqb (p .number) 0 || eqb s 1
+
+-- else the second does
 unfoldable pub decided : ℕ → Pass → Pass → Answer
-decided s p q = cond (eqb (p .number) 0 || eqb s 1) (endingIn p (p .rounds) 1) (endingIn q (p .rounds + q .rounds) 2)
+decided s p q = cond (firstDecides s p) (endingIn p (p .rounds) 1) (endingIn q (p .rounds + q .rounds) 2)
 
 -- from the figures of the first grid's windows and of the second's
 abbrev pub answerOf : ℕ → List WindowStats → List WindowStats → Answer

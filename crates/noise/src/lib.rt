@@ -1,66 +1,47 @@
 // The noise call: refusals, one pass or two, the answer, and work memory cleared.
 ghost use mathlib.Core.Path.{_≡_};
-ghost use Rattle.pass.specs.Memory.{intsFor, floatsFor, Beyond};
-ghost use Rattle.noise.specs.Refusals.{judgedOf};
+ghost use lib.ListN.{length};
+ghost use Rattle.noise.specs.Refusals.{shortOf};
 ghost use Rattle.noise.specs.Answers.{endingIn};
-ghost use Rattle.noise.specs.Call.{refused, measured, clearedInts, clearedFloats, noiseOf, Ready};
+ghost use Rattle.noise.specs.Call.{refused, measured, clearedInts, clearedFloats, noiseOf, leftInts, leftFloats};
+ghost use Rattle.noise.specs.Steps.{verdictAgainst, verdictOf, Ready, workInts, workFloats};
 use answer::Answer;
 use pass::Pass;
 
 // Why a call is refused, 0 where it is not; then M, the windows that memory is needed for.
-pub struct Judged {
+pub struct Verdict {
     pub number: u32,
     pub windows: usize,
 }
 
-// The first cause that applies to an image of w by h with so many pixels and work slices so long.
-pub fn judge(pixels: usize, w: usize, h: usize, ints: usize, floats: usize) -> Judged
-    ensures { λ r. ⌜ r ≡ judgedOf pixels w h ints floats ⌝ }
+fn against(number: u32) -> Verdict
+    ensures { λ r. ⌜ r ≡ verdictAgainst number ⌝ }
 {
-    if w > 16_384 {
-        return Judged {
-            number: 1,
-            windows: 0,
-        };
+    Verdict {
+        number: number,
+        windows: 0,
     }
-    if h > 16_384 {
-        return Judged {
-            number: 1,
-            windows: 0,
-        };
+}
+
+// The first cause that applies to an image of w by h with so many pixels and work slices so long.
+pub fn judge(pixels: usize, w: usize, h: usize, ints: usize, floats: usize) -> Verdict
+    ensures { λ r. ⌜ r ≡ verdictOf pixels w h ints floats ⌝ }
+{
+    let image = limits::judge(pixels, w, h);
+    if image != 0 {
+        return against(image);
     }
-    if pixels != w * h {
-        return Judged {
-            number: 2,
-            windows: 0,
-        };
-    }
-    if w < 4 {
-        return Judged {
-            number: 3,
-            windows: 0,
-        };
-    }
-    if h < 4 {
-        return Judged {
-            number: 3,
-            windows: 0,
-        };
+    if limits::too_small(w, h) {
+        return against(3);
     }
     let m = grid::needed(w, h);
     if ints < sample::COLUMNS * m {
-        return Judged {
-            number: 4,
-            windows: 0,
-        };
+        return against(4);
     }
     if floats < 2 * m + 2 {
-        return Judged {
-            number: 4,
-            windows: 0,
-        };
+        return against(4);
     }
-    Judged {
+    Verdict {
         number: 0,
         windows: m,
     }
@@ -111,8 +92,8 @@ pub fn refuse(number: u32) -> Answer
 fn passes(img: &[u8], w: usize, h: usize, ints: &mut [i32], floats: &mut [f32], m: usize) -> Answer
     requires { ⌜ Ready (now img) w h m (now ints) (now floats) ⌝ }
     ensures { λ r. ⌜ (r ≡ measured (now (img .entry)) w h)
-        × Beyond (intsFor m) (now (ints .entry)) (now (ints .exit))
-        × Beyond (floatsFor m) (now (floats .entry)) (now (floats .exit)) ⌝ }
+        × (now (ints .exit) ≡ workInts (now (img .entry)) w h (now (ints .entry)))
+        × (now (floats .exit) ≡ workFloats (now (img .entry)) w h (now (floats .entry))) ⌝ }
 {
     let first = pass::run(img, w, h, grid::WINDOWS, ints, floats);
     if first.number == 0 {
@@ -145,8 +126,8 @@ pub fn measure(
     answer
 }
 
-// The standard deviation of the pixel noise in an 8-bit image of w by h, in grey levels, or why there is none. The work slices hold
-// 3M and 2M + 2 elements or more, M being what grid::sizing answers.
+// The standard deviation of the pixel noise in an 8-bit image of w by h, in grey levels, or why there is none. The work slices
+// hold 3M and 2M + 2 elements or more, M being what grid::sizing answers.
 pub fn estimate_noise_sigma_u8(
     img: &[u8],
     w: usize,
@@ -154,13 +135,14 @@ pub fn estimate_noise_sigma_u8(
     ints: &mut [i32],
     floats: &mut [f32],
 ) -> Answer
-    ensures { λ r. ⌜ (r ≡ noiseOf (now (img .entry)) w h (now (ints .entry)) (now (floats .entry)) .answer)
-        × (now (ints .exit) ≡ noiseOf (now (img .entry)) w h (now (ints .entry)) (now (floats .entry)) .ints)
-        × (now (floats .exit) ≡ noiseOf (now (img .entry)) w h (now (ints .entry)) (now (floats .entry)) .floats) ⌝ }
+    ensures { λ r. ⌜ (r ≡ noiseOf (now (img .entry)) w h
+        (shortOf w h (length (now (ints .entry))) (length (now (floats .entry)))))
+        × (now (ints .exit) ≡ leftInts (r .number) w h (now (ints .entry)))
+        × (now (floats .exit) ≡ leftFloats (r .number) w h (now (floats .entry))) ⌝ }
 {
-    let j = judge(img.len(), w, h, ints.len(), floats.len());
-    let number = j.number;
-    let m = j.windows;
+    let verdict = judge(img.len(), w, h, ints.len(), floats.len());
+    let number = verdict.number;
+    let m = verdict.windows;
     if number != 0 {
         return refuse(number);
     }

@@ -9,7 +9,8 @@ use Rattle.band.specs.declared.Sample.{Sample}
 use Rattle.rounds.specs.Rounds.{Bands}
 use Rattle.joining.specs.Joining.{noise}
 use Rattle.joining.specs.declared.Noise.{Noise}
-use Rattle.pass.specs.Pass.{keptBy, startsBy, Room}
+use Rattle.pass.specs.Pass.{keptBy, startsBy}
+use Rattle.pass.specs.Steps.{gatesIn, squaresIn, Room}
 
 rises : (s : Sample) (b : ℕ) → b < 4 → getD (startsBy s) b 0 ≤ getD (startsBy s) (b + 1) 0
 rises s zero h = omega arith
@@ -33,7 +34,7 @@ module _ (s : Sample) (floats : List Float) (room : Room s floats) (a b : ℕ) (
   bands = record { same = gate-long ∙ sym op-long; rise = rises s; last = omega (arith, gate-long) }
 
   pub noise-of : {n : Noise} → n ≡ noise (take a floats) (take b (drop (keptBy s + 1) floats)) (startsBy s)
-      → n ≡ noise (take (keptBy s) floats) (take (keptBy s) (drop (keptBy s + 1) floats)) (startsBy s)
+      → n ≡ noise (gatesIn s floats) (squaresIn s floats) (startsBy s)
   noise-of e =
       e ∙ ap (λ (i : ℕ). noise (take i floats) (take b (drop (keptBy s + 1) floats)) (startsBy s)) p
       ∙ ap (λ (i : ℕ). noise (take (keptBy s) floats) (take i (drop (keptBy s + 1) floats)) (startsBy s)) q

@@ -24,7 +24,8 @@ use Rattle.rounds.proofs.Bounds.{image-rounds, variance-rounds}
 use Rattle.joining.specs.Joining.{minSamples, noise, noiseUnder}
 use Rattle.joining.specs.declared.Noise.{Noise}
 use Rattle.joining.specs.declared.Sigma.the-variants.{Number}
-use Rattle.pass.specs.Pass.{startsBy, noiseIn, passOf, Small}
+use Rattle.pass.specs.Pass.{startsBy, noiseIn, passOf}
+use Rattle.pass.specs.Steps.{Small}
 
 -- the image's rounds and the four bands', at most 12 each
 under-most : (g o : List Float) (starts : List ℕ) (image : Settled) → image .rounds ≤ 12 → noiseUnder g o starts image .rounds ≤ 60

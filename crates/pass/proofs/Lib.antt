@@ -1,4 +1,4 @@
 pub mod Bounds
-pub mod Beyonds
 pub mod Bands
 pub mod Collected
+pub mod Reasons

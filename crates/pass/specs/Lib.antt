@@ -1,2 +1,4 @@
 pub mod Memory
 pub mod Pass
+pub mod Steps
+pub mod Examples

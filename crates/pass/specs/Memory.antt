@@ -2,7 +2,7 @@
 use mathlib.Core.Path.{_≡_}
 use mathlib.Core.List.{List}
 use Prim.Native.Nat.{ℕ, _+_, _*_, _≤_}
-use lib.ListN.{length, drop}
+use lib.ListN.{length}
 use lib.IntN.{ℤ}
 use lib.Ieee.{Float}
 use Rattle.grid.specs.Grid.{Sides, totalOf}
@@ -22,8 +22,3 @@ pub record Runnable (img : List ℕ) (w h windows : ℕ) (ints : List ℤ) (floa
   pub pixels : length img ≡ w * h
   pub room-ints : intsFor (totalOf w h windows) ≤ length ints
   pub room-floats : floatsFor (totalOf w h windows) ≤ length floats
-
--- from place n on a slice is as it was
-pub record Beyond {A : Type 0} (n : ℕ) (old new : List A) : Type 0 where
-  pub same : drop n new ≡ drop n old
-  pub long : length new ≡ length old

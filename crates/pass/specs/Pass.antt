@@ -1,13 +1,15 @@
 -- One pass, from the figures of its windows alone: document 01, "Bands", "Rounds" and "Joining".
 use mathlib.Core.List.{List, [], _∷_}
-use Prim.Native.Nat.{ℕ, _+_, _*_, _^_, _≤_, _<_}
+use Prim.Native.Nat.{ℕ, _+_}
 use lib.ListN.{length}
-use lib.Ieee.{Float}
 use Rattle.window.specs.declared.WindowStats.{WindowStats}
 use Rattle.band.specs.Bands.{sampleOf}
 use Rattle.sample.specs.Laid.{gatesOf, squaresOf}
 use Rattle.band.specs.declared.Sample.{Sample}
-use Rattle.joining.specs.Joining.{noise, numberOf, figureOf}
+use Rattle.rounds.specs.Rounds.{imageVariance}
+use Rattle.rounds.specs.declared.Settled.{Settled}
+use Rattle.rounds.specs.declared.Found.{Found}
+use Rattle.joining.specs.Joining.{variances, joined, founds, noise, numberOf, figureOf}
 use Rattle.joining.specs.declared.Noise.{Noise}
 use Rattle.pass.specs.declared.Pass.{Pass}
 
@@ -41,17 +43,19 @@ packed s n =
 unfoldable pub passOf : List WindowStats → Pass
 passOf fs = packed (sampleOf fs) (noiseIn fs)
 
--- ---- what the code's steps ask for
+-- ---- what its number rests on
 
--- numbers of 32 bits
-pub record Small (s : Sample) (n : Noise) : Type 0 where
-  pub b0 : s .b0 < 2 ^ 32
-  pub b1 : s .b1 < 2 ^ 32
-  pub b2 : s .b2 < 2 ^ 32
-  pub b3 : s .b3 < 2 ^ 32
-  pub rail : s .rail < 2 ^ 32
-  pub rounds : n .rounds < 2 ^ 32
+-- the image-wide variance
+abbrev pub imageIn : List WindowStats → Settled
+imageIn fs = imageVariance (gatesOf fs) (squaresOf fs) (startsBy (sampleOf fs))
 
--- the gates, one spare place and the squared outputs
-abbrev pub Room : Sample → List Float → Type 0
-Room s floats = 2 * keptBy s + 1 ≤ length floats
+-- the variances that its bands have or lack
+abbrev pub foundsIn : List WindowStats → List Found
+foundsIn fs = founds (gatesOf fs) (squaresOf fs) (startsBy (sampleOf fs)) (imageIn fs .var)
+
+-- how many bands have one, and how many windows those that are joined hold
+abbrev pub foundBy : List WindowStats → ℕ
+foundBy fs = length (variances (foundsIn fs))
+
+abbrev pub heldBy : List WindowStats → ℕ
+heldBy fs = joined (foundsIn fs) .n

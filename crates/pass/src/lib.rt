@@ -1,12 +1,12 @@
 // One pass: windows sampled, split into bands, and their noise level found.
 ghost use mathlib.Core.Path.{_≡_};
-ghost use Prim.Native.Nat.{_+_};
-ghost use lib.ListN.{take, drop};
-ghost use Rattle.grid.specs.Grid.{totalOf};
 ghost use Rattle.measure.specs.Figures.{figuresOf};
+ghost use Rattle.measure.specs.Columns.{columnsIn};
+ghost use Rattle.sample.specs.Laid.{laidIn};
 ghost use Rattle.joining.specs.Joining.{noise, numberOf, figureOf};
-ghost use Rattle.pass.specs.Memory.{intsFor, floatsFor, Runnable, Beyond};
-ghost use Rattle.pass.specs.Pass.{keptBy, startsBy, packed, passOf, Small, Room};
+ghost use Rattle.pass.specs.Memory.{Runnable};
+ghost use Rattle.pass.specs.Pass.{startsBy, packed, passOf};
+ghost use Rattle.pass.specs.Steps.{gatesIn, squaresIn, Small, Room};
 use band::Sample;
 use joining::Noise;
 use joining::Sigma;
@@ -23,7 +23,7 @@ pub struct Pass {
     pub rail: u32,
 }
 
-// One pass of about `windows` windows. The work slices change only as far as its windows reach.
+// One pass of about `windows` windows. It leaves their figures in the work slices: three columns, and the kept ones as floats.
 pub fn run(
     img: &[u8],
     w: usize,
@@ -34,8 +34,8 @@ pub fn run(
 ) -> Pass
     requires { ⌜ Runnable (now img) w h windows (now ints) (now floats) ⌝ }
     ensures { λ r. ⌜ (r ≡ passOf (figuresOf (now (img .entry)) w h windows))
-        × Beyond (intsFor (totalOf w h windows)) (now (ints .entry)) (now (ints .exit))
-        × Beyond (floatsFor (totalOf w h windows)) (now (floats .entry)) (now (floats .exit)) ⌝ }
+        × (now (ints .exit) ≡ columnsIn (figuresOf (now (img .entry)) w h windows) (now (ints .entry)))
+        × (now (floats .exit) ≡ laidIn (figuresOf (now (img .entry)) w h windows) (now (floats .entry))) ⌝ }
 {
     let s = sample::collect(img, w, h, windows, ints, floats);
     let n = noise_in(floats, s);
@@ -45,7 +45,7 @@ pub fn run(
 // The noise of the bands that stand one after the other in floats: gates, a spare place, squared outputs.
 fn noise_in(floats: &[f32], s: Sample) -> Noise
     requires { ⌜ Room s (now floats) ⌝ }
-    ensures { λ r. ⌜ r ≡ noise (take (keptBy s) (now (floats .entry))) (take (keptBy s) (drop (keptBy s + 1) (now (floats .entry)))) (startsBy s) ⌝ }
+    ensures { λ r. ⌜ r ≡ noise (gatesIn s (now (floats .entry))) (squaresIn s (now (floats .entry))) (startsBy s) ⌝ }
 {
     let e1 = s.b0 + s.b1;
     let e2 = e1 + s.b2;

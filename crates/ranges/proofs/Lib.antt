@@ -1,3 +1,4 @@
+pub mod Constants
 pub mod Bounds
 pub mod Examples
 pub mod Largest

@@ -2,10 +2,10 @@
 use Prim.Native.Nat.{ℕ}
 use mathlib.Core.Bool.{false}
 use mathlib.Core.List.{List}
-use lib.IntN.{pos, negsuc}
 use lib.ListN.{getD}
 use lib.Ieee
-use lib.Ieee.{Float, nan, fin, binary32}
+use lib.Ieee.{Float, nan, binary32, round}
+use Rattle.ieee.specs.Numbers.{f32Of}
 
 infixl 68 _⊕_ _⊖_
 infixl 69 _⊗_ _⊘_
@@ -24,16 +24,12 @@ x ⊘ y = Ieee.div binary32 x y
 abbrev pub at : List Float → ℕ → Float
 at l k = getD l k nan
 
-abbrev pub plusZero : Float
-plusZero = fin false 0 (pos 0)
-
 abbrev pub one : Float
-one = fin false 1 (pos 0)
+one = f32Of 1
 
--- 3 * 2 ^ 2
 abbrev pub twelve : Float
-twelve = fin false 3 (pos 2)
+twelve = f32Of 12
 
--- 0xaaaaab * 2 ^ -27, the f32 nearest to 1 / 12
+-- 1 / 12, rounded to the nearest
 abbrev pub twelfth : Float
-twelfth = fin false 11184811 (negsuc 26)
+twelfth = round binary32 false 1 12

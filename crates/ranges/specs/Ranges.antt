@@ -27,6 +27,6 @@ allWithin n c = (within n (c .xx) && within n (c .xy)) && within n (c .yy)
 abbrev pub bothWithin : ℕ → List Float → Bool
 bothWithin n v = within n (at v 0) && within n (at v 1)
 
--- a noise level: within 1,000, or no number
-abbrev pub level : Float → Bool
-level x = isNan x || within 1000 x
+-- sigma: within 1,000, or a NaN
+abbrev pub sigmaRange : Float → Bool
+sigmaRange x = isNan x || within 1000 x

@@ -2,7 +2,7 @@
 ghost use mathlib.Core.Path.{_≡_};
 ghost use Rattle.ieee.specs.Order.{finite};
 ghost use Rattle.refine.specs.Covariance.{allFinite};
-ghost use Rattle.ranges.specs.Ranges.{within, upTo, allWithin, bothWithin, level};
+ghost use Rattle.ranges.specs.Ranges.{within, upTo, allWithin, bothWithin, sigmaRange};
 use refine::PositionCovariance;
 
 // The largest number of f32, (2 ^ 24 - 1) * 2 ^ 104.
@@ -26,8 +26,8 @@ pub fn up_to_thousand(x: f32) -> bool
     (0.0 <= x) & (x <= 1000.0)
 }
 
-pub fn is_level(x: f32) -> bool
-    ensures { λ r. ⌜ r ≡ level x ⌝ }
+pub fn sigma_in_range(x: f32) -> bool
+    ensures { λ r. ⌜ r ≡ sigmaRange x ⌝ }
 {
     !((x < -1000.0) | (1000.0 < x))
 }

@@ -3,7 +3,7 @@ use mathlib.Core.Path.{refl}
 use lib.Ieee.{ofInt, round, lt, le, eq, add, sub, mul, div}
 use Rattle.ieee.specs.Order.{finite}
 use Rattle.ranges.specs.Ranges.{within, upTo}
-use Rattle.knots.specs.Places.{place, column}
+use Rattle.knots.specs.Places.{place, valueAt}
 use Rattle.model.specs.Knots.{knotsNumber, atOf}
 use Rattle.ieee.specs.Convert.{convert}
 use Rattle.window.specs.Window.{statsOf, gate}
@@ -13,7 +13,7 @@ use Rattle.grid.specs.Step.{stepOf}
 use Rattle.readings.specs.Listing.{listing, AllHold}
 
 pub readings : AllHold listing
-unfolding ofInt round convert statsOf gate bandOf stepOf atOf knotsNumber place column within upTo finite lt le eq add sub mul div
+unfolding ofInt round convert statsOf gate bandOf stepOf atOf knotsNumber place valueAt within upTo finite lt le eq add sub mul div
 readings =
     -- windows
     refl and refl and refl and refl and refl

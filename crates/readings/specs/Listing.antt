@@ -11,6 +11,7 @@ use Rattle.laws.specs.Lists.{from}
 use Rattle.ieee.specs.Convert.{convert}
 use Rattle.ieee.specs.Numbers.{plusZero}
 use Rattle.knots.specs.declared.Width.the-variants.{Known}
+use Rattle.model.specs.declared.At.the-variants.{Given}
 use Rattle.model.specs.Knots.{table, atOf}
 use Rattle.window.specs.Window.{Window, statsOf}
 use Rattle.band.specs.Bands.{bandOf, rail}
@@ -61,7 +62,7 @@ Holds (knots a b c) =
     atOf
     (table 2 plusZero (padded (a .width) (b .width)) (padded (a .gain) (b .gain)) (padded (a .residual) (b .residual)))
     (Known (eighths (c .width)))
-    ≡ record { number = 0; gain = eighths (c .gain); residual = eighths (c .residual) }
+    ≡ Given (eighths (c .gain)) (eighths (c .residual))
 
 abbrev pub listing : List Reading
 listing =

@@ -7,7 +7,7 @@ use lib.IntN.{ℤ}
 use Rattle.ieee.specs.Order.{finite}
 use Rattle.refine.specs.declared.Judged.{Judged}
 use Rattle.refine.specs.declared.Judged.the-variants.{Covariance, Refused}
-use Rattle.refine.specs.Covariance.{covariance, judged, figures}
+use Rattle.refine.specs.Covariance.{covariance, zeros, judged}
 
 module _ (s t u : Bool) (m n k : ℕ) (d e f : ℤ) where
   pub kept : judged (covariance (fin s m d) (fin t n e) (fin u k f)) ≡ Covariance (covariance (fin s m d) (fin t n e) (fin u k f))
@@ -34,6 +34,6 @@ module _ (x y z : Float) where
   refused-yy h = ap (λ (b : Bool). answered ((finite x && finite y) && b)) h ∙ ap answered (never (finite x && finite y))
 
 -- the zeros are those of pattern 0
-pub zeros : (n : ℕ) → figures (Refused n) ≡ covariance (ofBits binary32 0) (ofBits binary32 0) (ofBits binary32 0)
+pub zeros-are : zeros ≡ covariance (ofBits binary32 0) (ofBits binary32 0) (ofBits binary32 0)
 unfolding ofBits
-zeros n = refl
+zeros-are = refl

@@ -1,1 +1,2 @@
 pub mod Covariance
+pub mod Numbers

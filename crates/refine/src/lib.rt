@@ -1,6 +1,6 @@
 // The position covariance of refine/mod.rs, by value.
 ghost use mathlib.Core.Path.{_≡_};
-ghost use Rattle.refine.specs.Covariance.{covariance, sum, allFinite, judged};
+ghost use Rattle.refine.specs.Covariance.{covariance, addCovariance, allFinite, judged};
 
 // Symmetric 2 by 2 covariance of a refined corner position.
 pub struct PositionCovariance {
@@ -45,7 +45,7 @@ impl PositionCovariance {
 
     // The covariance of the sum of two independent errors.
     pub fn add(self, other: Self) -> Self
-        ensures { λ r. ⌜ r ≡ sum self other ⌝ }
+        ensures { λ r. ⌜ r ≡ addCovariance self other ⌝ }
     {
         Self::new(self.xx + other.xx, self.xy + other.xy, self.yy + other.yy)
     }

@@ -1,6 +1,6 @@
 -- An answer stands in the list of answers at its letter's place, and a line agrees where its last column holds it. Assumes nothing.
 use mathlib.Core.Path.{_≡_, sym, ap, _∙_}
-use mathlib.Core.Bool.{false}
+use mathlib.Core.Bool.{Bool, true, false}
 use mathlib.Core.List.{List}
 use Prim.Native.Nat.{ℕ, zero, suc, _+_, _%_, _≤_, _<_}
 use native.Mathlib.Omega.{arith}
@@ -9,7 +9,7 @@ use lib.Ieee.{Float}
 use lib.ListN.{getD, List·getD-eq-default}
 use borrow.Author.Tests.{le-leb, lt-leb}
 use Rattle.stored.specs.Floats.{answers, answerOf}
-use Rattle.stored.specs.Lines.{written, agreesAt}
+use Rattle.stored.specs.Lines.{written, isLine, agreesAt}
 
 -- k is none of the first n numbers, as a match with an arm for each has it
 abbrev pub Missed : ℕ → ℕ → Type 0
@@ -45,6 +45,10 @@ module _ (l : List ℕ) (columns at : ℕ) where
   unfolding agreesAt
   few h = rw (lt-leb 3 columns h)
 
-  pub judged : {v r a b : ℕ} → 3 ≤ columns → a ≡ written l (at + 2) 16 → b ≡ written l (at + 19) 16 → v ≡ answerOf (getD l at 0) a b → r ≡ written l (at + 36) 16 → eqb v r ≡ agreesAt l columns at
+  pub not-a-line : {q : Bool} → 3 ≤ columns → q ≡ isLine l columns at → q ≡ false → false ≡ agreesAt l columns at
   unfolding agreesAt
-  judged h e f g i = rw (le-leb 3 columns h, g, e, f, i)
+  not-a-line h p e = rw (le-leb 3 columns h, ← p, e)
+
+  pub judged : {v r a b : ℕ} {q : Bool} → 3 ≤ columns → q ≡ isLine l columns at → q ≡ true → a ≡ written l (at + 2) 16 → b ≡ written l (at + 19) 16 → v ≡ answerOf (getD l at 0) a b → r ≡ written l (at + 36) 16 → eqb v r ≡ agreesAt l columns at
+  unfolding agreesAt
+  judged h p q e f g i = rw (le-leb 3 columns h, ← p, q, g, e, f, i)

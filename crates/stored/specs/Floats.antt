@@ -2,6 +2,8 @@
 use Prim.Native.Nat.{ℕ, _%_, _^_}
 use mathlib.Core.Bool.{Bool, cond}
 use mathlib.Core.List.{List, [], _∷_}
+use lib.Dec.{ltb}
+use lib.IntN.{ℤ, pos, _-ℤ_}
 use lib.ListN.{getD}
 use lib.Ieee.{Float, binary32, binary64, ofBits, toBits}
 use Rattle.ieee.specs.Convert.{convert}
@@ -14,6 +16,10 @@ single a = ofBits binary32 (a % 2 ^ 32)
 
 abbrev pub double : ℕ → Float
 double a = ofBits binary64 a
+
+-- a whole number with a sign: bit 31 is the sign, the 31 bits below it are the size
+abbrev pub signed : ℕ → ℤ
+signed a = cond (ltb (a % 2 ^ 32) (2 ^ 31)) (pos (a % 2 ^ 32 % 2 ^ 31)) (pos 0 -ℤ pos (a % 2 ^ 32 % 2 ^ 31))
 
 abbrev pub flag : Bool → ℕ
 flag b = cond b 1 0

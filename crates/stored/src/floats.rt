@@ -6,7 +6,7 @@ ghost use lib.Ieee.{binary32, binary64};
 ghost use Rattle.stored.specs.Floats.{single, double, flag, answerOf};
 
 // The f32 with the pattern in a's lower half, or NaN.
-fn to_single(a: u64) -> f32
+pub fn to_single(a: u64) -> f32
     ensures { λ r. ⌜ r ≡ single a ⌝ }
 {
     let b = (a % 0x1_0000_0000) as u32;
@@ -27,19 +27,10 @@ fn to_double(a: u64) -> f64
 }
 
 // The pattern of x, the quiet one for NaN.
-fn of_single(x: f32) -> u64
+pub fn of_single(x: f32) -> u64
     ensures { λ r. ⌜ r ≡ Ieee.toBits binary32 x ⌝ }
 {
-    if x != x {
-        return 0x7fc0_0000;
-    }
-    wide(f32::to_bits(x))
-}
-
-fn wide(x: u32) -> u64
-    ensures { λ r. ⌜ r ≡ x ⌝ }
-{
-    x as u64
+    laws::wide(float::bits32(x))
 }
 
 // The pattern of x, the quiet one for NaN.

@@ -1,39 +1,25 @@
 -- Where a pixel lies from an origin on: the machine's difference at 64 bits is the number, and its tests are those of `past`. Assumes nothing.
 use mathlib.Core.Path.{_≡_, refl, sym, ap, _∙_, subst}
-use mathlib.Core.Bool.{Bool, true, false, _&&_}
+use mathlib.Core.Bool.{Bool, true, false}
 use mathlib.Core.List.{List}
 use Prim.Native.Nat.{ℕ, suc, _+_, _*_, _≤_, _<_}
 use native.Mathlib.Nat.{min-eq-left, min-eq-right, le-of-lt, mul-le-mul, mul-le-mul-right}
 use native.Mathlib.Omega.{arith}
-use lib.Dec.{T, leb, leb·suc-suc}
+use lib.Dec.{T}
 use lib.Ieee.{Float}
 use lib.ListN.{length, take, length-take}
 use lib.IntN.{ℤ, pos, negsuc, natAbs, _-ℤ_}
-use lib.Signed.{mag, ltZ, leZ, nonNeg}
+use lib.Signed.{mag, ltZ, nonNeg}
 use mir.Syntax.{w32, w64}
 use mir.Val.{SFits, Fits, toZ, ofZ}
 use mir.Facts.{toZ-ofZ, sfits-widen, fits-natAbs}
 use borrow.Author.Tests.{le-ltb}
 use Rattle.laws.proofs.Machine.{abs-sub-le, held-of}
-use Rattle.support.specs.Ranges.{near, past, offset}
-
--- within ±1,000,000, by the two ends
-pub near-is : (z : ℤ) → leZ (negsuc 999999) z && leZ z (pos 1000000) ≡ near z
-unfolding near
-near-is (pos n) = refl
-near-is (negsuc n) = both (leb n 999999) ∙ sym (leb·suc-suc n 999999)
-  where
-    both : (b : Bool) → b && true ≡ b
-    both true = refl
-    both false = refl
-
--- what a test of an element that is held as it stands says of the element
-pub near-held : (z : ℤ) {b : Bool} → mag z < 2147483648 → b ≡ near (toZ w32 (ofZ w32 z)) → near z ≡ b
-near-held z h e = ap near (sym (held-of h)) ∙ sym e
+use Rattle.support.specs.Steps.{past, pastOrigin}
 
 -- the place of a pixel, from parts that are held as they stand
-pub place-held : (x z : ℤ) (n : ℕ) {r : ℕ} → SFits w32 x → mag z < 2147483648 → r ≡ offset (toZ w32 (ofZ w32 x)) (toZ w32 (ofZ w32 z)) n → r ≡ offset x z n
-place-held x z n f h e = e ∙ ap (λ (y : ℤ). offset y (toZ w32 (ofZ w32 z)) n) (toZ-ofZ f) ∙ ap (λ (y : ℤ). offset x y n) (held-of {z = z} h)
+pub place-held : (x z : ℤ) (n : ℕ) {r : ℕ} → SFits w32 x → mag z < 2147483648 → r ≡ pastOrigin (toZ w32 (ofZ w32 x)) (toZ w32 (ofZ w32 z)) n → r ≡ pastOrigin x z n
+place-held x z n f h e = e ∙ ap (λ (y : ℤ). pastOrigin y (toZ w32 (ofZ w32 z)) n) (toZ-ofZ f) ∙ ap (λ (y : ℤ). pastOrigin x y n) (held-of {z = z} h)
 
 -- a cell of a side of at most 32
 pub in-cells : (i j side : ℕ) → i < side → j < side → side ≤ 32 → j * side + i < 1024

@@ -3,4 +3,3 @@ pub mod Decimals
 pub mod Fours
 pub mod Lays
 pub mod Fields
-pub mod Examples

@@ -1,2 +1,4 @@
+pub mod Text
 pub mod Numerals
 pub mod Line
+pub mod Examples

@@ -15,9 +15,17 @@ fieldOf kind x = cond (eqb kind 1) (hex8Of (x % 4294967296)) (decimalOf x)
 abbrev pub endOf : ℕ → ℕ → ℕ
 endOf n k = cond (eqb (k + 1) n) 10 32
 
+-- a field and the byte that stands after it
+abbrev pub fieldThen : ℕ → ℕ → ℕ → List ℕ
+fieldThen kind x end = fieldOf kind x ++ (end ∷ [])
+
 -- field k of n, with what stands after it
 abbrev pub fieldAt : List ℕ → List ℕ → ℕ → List ℕ
-fieldAt kinds values k = fieldOf (getD kinds k 0) (getD values k 0) ++ (endOf (length values) k ∷ [])
+fieldAt kinds values k = fieldThen (getD kinds k 0) (getD values k 0) (endOf (length values) k)
 
 unfoldable pub lineOf : List ℕ → List ℕ → List ℕ
 lineOf kinds values = joined (fieldAt kinds values) 0 (length values)
+
+-- a header and the line under it
+abbrev pub under : List ℕ → List ℕ → List ℕ → List ℕ
+under header kinds values = header ++ lineOf kinds values

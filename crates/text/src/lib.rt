@@ -1,11 +1,11 @@
 // Numbers and lines of fields as text, in lent bytes.
 ghost use mathlib.Core.Path.{_≡_};
-ghost use mathlib.Core.List.{[], _∷_, _++_};
+ghost use mathlib.Core.List.{_++_};
 ghost use Prim.Native.Nat.{_+_, _*_, _<_, _≤_};
 ghost use lib.ListN.{length, drop};
 ghost use Rattle.laws.specs.Lists.{laid};
 ghost use Rattle.text.specs.Numerals.{decimalOf, digitOf, hex4Of, hex8Of};
-ghost use Rattle.text.specs.Line.{fieldOf, endOf, lineOf};
+ghost use Rattle.text.specs.Line.{fieldOf, fieldThen, endOf, lineOf, under};
 
 // Lays s over what stands from place `at` on, and answers where it ends. All other bytes stay, here and below.
 pub fn put(out: &mut [u8], at: usize, s: &[u8]) -> usize
@@ -71,7 +71,7 @@ fn put_value(out: &mut [u8], at: usize, kind: u8, x: u64) -> usize
 // A field and the byte that stands after it.
 fn put_field(out: &mut [u8], at: usize, kind: u8, x: u64, end: u8) -> usize
     requires { ⌜ at + 21 ≤ length (now out) ⌝ }
-    ensures { λ r. ⌜ (r ≡ at + length (fieldOf kind x ++ (end ∷ []))) × (now (out .exit) ≡ laid (now (out .entry)) at (fieldOf kind x ++ (end ∷ []))) ⌝ }
+    ensures { λ r. ⌜ (r ≡ at + length (fieldThen kind x end)) × (now (out .exit) ≡ laid (now (out .entry)) at (fieldThen kind x end)) ⌝ }
 {
     let to = put_value(out, at, kind, x);
     let last = [end];
@@ -103,9 +103,10 @@ pub fn put_line(out: &mut [u8], at: usize, kinds: &[u8], values: &[u64]) -> usiz
 
 // A header and the line under it, from the front on: answers how long both are.
 pub fn put_report(out: &mut [u8], header: &[u8], kinds: &[u8], values: &[u64]) -> usize
-    requires { ⌜ (length (now kinds) ≡ length (now values)) × (length (now header) + 21 * length (now values) ≤ length (now out)) ⌝ }
-    ensures { λ r. ⌜ (r ≡ length (now (header .entry) ++ lineOf (now (kinds .entry)) (now (values .entry))))
-        × (now (out .exit) ≡ (now (header .entry) ++ lineOf (now (kinds .entry)) (now (values .entry))) ++ drop r (now (out .entry))) ⌝ }
+    requires { ⌜ (length (now kinds) ≡ length (now values))
+        × (length (now header) + 21 * length (now values) ≤ length (now out)) ⌝ }
+    ensures { λ r. ⌜ (r ≡ length (under (now (header .entry)) (now (kinds .entry)) (now (values .entry))))
+        × (now (out .exit) ≡ under (now (header .entry)) (now (kinds .entry)) (now (values .entry)) ++ drop r (now (out .entry))) ⌝ }
 {
     let to = put(out, 0, header);
     put_line(out, to, kinds, values)

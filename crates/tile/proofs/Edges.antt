@@ -4,26 +4,39 @@ use mathlib.Core.Bool.{true, false}
 use mathlib.Core.List.{List}
 use Prim.Native.Nat.{ℕ, _+_, _*_, _/_, _%_, _≤_, _<_}
 use native.Mathlib.Omega.{arith}
+use borrow.Author.Tests.{eq-eqb, ne-eqb}
+use lib.Dec.{eqb}
 use lib.ListN.{length, getD, length-map}
 use lib.Ieee.{Float, nan, binary32, sub, mul, div, lt, ofBits}
 use Rattle.laws.proofs.Choice.{chosen, passed}
-use Rattle.levels.specs.Whole.{whole, Upto, AllUpto}
+use Rattle.ieee.specs.Numbers.{f32Of}
+use Rattle.levels.specs.Whole.{Upto, AllUpto}
 use Rattle.levels.specs.Clear.{AllClear}
 use Rattle.disk.specs.Rows.{inRows, read}
 use Rattle.disk.specs.Smoothing.{down, across, smoothed}
 use Rattle.disk.specs.Disk.{disk}
 use Rattle.disk.specs.Gradients.{values, squaredAt, gradients}
 use Rattle.levels.specs.Levels.{highLevel, lowLevel}
-use Rattle.tile.specs.Width.{width, number, edgeOf}
-use Rattle.levels.specs.Steepness.{steepness}
+use Rattle.tile.specs.declared.EdgeWidth.the-variants.{Width, Refused}
+use Rattle.tile.specs.declared.PixelTile.{PixelTile}
+use Rattle.tile.specs.Width.{rootTwoPi, edgeOf, edgeOfTile}
+use Rattle.steepness.specs.Steepness.{steepness}
 use Rattle.levels.proofs.Constants.{zero-is}
-use Rattle.tile.proofs.Constants.{root-is}
 use Rattle.disk.proofs.Places.{disk-long, Agree, values-same, gradients-same, smooth-read}
 use Rattle.disk.proofs.Smoothed.{smooth-upto, gradients-clear, values-upto}
 
 -- squares that agree on 13 rows of 13 have the same answer
 pub edge-same : (s t : ℕ → ℕ → Float) → Agree s t → edgeOf s ≡ edgeOf t
 edge-same s t h = rw (gradients-same s t h, values-same s t h) refl
+
+-- the answer of a tile, refused or not
+pub refused-is : (t : PixelTile) → (t .refused ≡ 0 → ⊥) → Refused (t .refused) ≡ edgeOfTile t
+unfolding edgeOfTile
+refused-is t n = passed (eqb (t .refused) 0) _ _ (ne-eqb (t .refused) 0 n)
+
+pub taken-is : (t : PixelTile) → t .refused ≡ 0 → edgeOf (smoothed (read (t .samples))) ≡ edgeOfTile t
+unfolding edgeOfTile
+taken-is t z = chosen (eqb (t .refused) 0) _ _ (eq-eqb (t .refused) 0 z)
 
 module _ (samples rows smooth grads : List Float) (p : rows ≡ inRows (down (read samples)) 221) (q : smooth ≡ inRows (across (read rows)) 217) (r : grads ≡ gradients (read smooth)) where
   grads-are : grads ≡ gradients (smoothed (read samples))
@@ -52,16 +65,16 @@ module _ (samples rows smooth grads : List Float) (p : rows ≡ inRows (down (re
     g-is : g ≡ steep
     g-is = e ∙ ap steepness grads-are
 
-    test-is : lt (ofBits binary32 0) g ≡ lt (whole 0) steep
+    test-is : lt (ofBits binary32 0) g ≡ lt (f32Of 0) steep
     test-is = λ i. lt (zero-is i) (g-is i)
 
-    pub flat-is : lt (ofBits binary32 0) g ≡ false → number 9 ≡ edgeOf (smoothed (read samples))
-    flat-is h = passed (lt (whole 0) steep) _ (number 9) (sym test-is ∙ h)
+    pub flat-is : lt (ofBits binary32 0) g ≡ false → Refused 9 ≡ edgeOf (smoothed (read samples))
+    flat-is h = passed (lt (f32Of 0) steep) _ (Refused 9) (sym test-is ∙ h)
 
-    pub width-is : (vals : List Float) (contrast : Float) → vals ≡ values (read smooth) → contrast ≡ sub binary32 (highLevel vals) (lowLevel vals) → lt (ofBits binary32 0) g ≡ true
-        → width (div binary32 contrast (mul binary32 (ofBits binary32 0x4020_6c99) g)) ≡ edgeOf (smoothed (read samples))
-    width-is vals contrast v c h =
-        (λ i. width (div binary32 (contrast-is i) (mul binary32 (root-is i) (g-is i)))) ∙ chosen (lt (whole 0) steep) _ (number 9) (sym test-is ∙ h)
+    pub width-is : (vals : List Float) (contrast root : Float) → vals ≡ values (read smooth) → contrast ≡ sub binary32 (highLevel vals) (lowLevel vals) → root ≡ rootTwoPi → lt (ofBits binary32 0) g ≡ true
+        → Width (div binary32 contrast (mul binary32 root g)) ≡ edgeOf (smoothed (read samples))
+    width-is vals contrast root v c e h =
+        (λ i. Width (div binary32 (contrast-is i) (mul binary32 (e i) (g-is i)))) ∙ chosen (lt (f32Of 0) steep) _ (Refused 9) (sym test-is ∙ h)
       where
         contrast-is : contrast ≡ sub binary32 (highLevel (values (smoothed (read samples)))) (lowLevel (values (smoothed (read samples))))
         contrast-is = c ∙ (λ i. sub binary32 (highLevel (vals-are vals v i)) (lowLevel (vals-are vals v i)))

@@ -1,3 +1,4 @@
 pub mod Constants
+pub mod Refusals
 pub mod Edges
 pub mod Loading

@@ -7,23 +7,23 @@ use borrow.Author.Tests.{eq-eqb, ne-eqb}
 use lib.ListN.{length, getD, replicate, drop-of-length-le}
 use lib.IntN.{ℤ, pos, negsuc, sucℤ, natAbs, _+ℤ_, _-ℤ_, sucℤ-+ℤ, +ℤ-idl}
 use lib.Ieee.{Float, binary32, ofBits}
-use Rattle.laws.specs.Lists.{from, joined}
+use Rattle.laws.specs.Lists.{from, joined, laid}
 use Rattle.laws.proofs.Fill.{length-from, getD-from, Rows, rows-put, rows-end}
 use Rattle.laws.proofs.Ring.{ring, v, k as lit, _⊕_, _⊖_}
 use Rattle.laws.proofs.Machine.{held}
 use Rattle.imageview.specs.Sample.{clamped, pixel}
 use Rattle.imageview.proofs.Nearest.{clamped-most, in-image}
-use Rattle.levels.specs.Whole.{whole}
+use Rattle.ieee.specs.Numbers.{f32Of}
 use Rattle.levels.proofs.Constants.{zero-is}
 use Rattle.disk.specs.Rows.{inRows}
 use Rattle.tile.specs.Tile.{tile}
-use Rattle.tile.specs.Laid.{laid, picked, run}
+use Rattle.tile.specs.Picked.{picked, run}
 
 from-same : {A : Type 0} (f g : ℕ → A) (k n : ℕ) → ((i : ℕ) → i < k + n → f i ≡ g i) → from f k n ≡ from g k n
 from-same f g k zero h = refl
 from-same f g k (suc n) h = λ j. h k (omega arith) j ∷ from-same f g (suc k) n (λ i p. h i (omega arith)) j
 
-zeros : (f : ℕ → Float) (k n : ℕ) → ((i : ℕ) → f i ≡ whole 0) → replicate n (ofBits binary32 0) ≡ from f k n
+zeros : (f : ℕ → Float) (k n : ℕ) → ((i : ℕ) → f i ≡ f32Of 0) → replicate n (ofBits binary32 0) ≡ from f k n
 zeros f k zero h = refl
 zeros f k (suc n) h = λ j. (zero-is ∙ sym (h k)) j ∷ zeros f (suc k) n h j
 
@@ -111,11 +111,11 @@ row-laid l w columns rows samples₀ {samples} {samples′} {j} q r h e =
 
 module _ (l : List ℕ) (w h : ℕ) (origin centre : List ℤ) where
   -- an image without a pixel gives zeros
-  none : (y x : ℕ) → w ≡ 0 → tile l w h origin centre y x ≡ whole 0
+  none : (y x : ℕ) → w ≡ 0 → tile l w h origin centre y x ≡ f32Of 0
   unfolding pixel
   none y x e = rw (eq-eqb w 0 e) refl
 
-  none-2 : (y x : ℕ) → (w ≡ 0 → ⊥) → h ≡ 0 → tile l w h origin centre y x ≡ whole 0
+  none-2 : (y x : ℕ) → (w ≡ 0 → ⊥) → h ≡ 0 → tile l w h origin centre y x ≡ f32Of 0
   unfolding pixel
   none-2 y x p e = rw (ne-eqb w 0 p, eq-eqb h 0 e) refl
 
@@ -154,7 +154,7 @@ module _ (l : List ℕ) (w h : ℕ) (origin centre : List ℤ) where
     pub run-is : getD columns 16 0 ≡ getD columns 0 0 + 16 → (j : ℕ) → from (run l (getD rows j 0 * w + getD columns 0 0)) 0 17 ≡ rowOf l w columns rows j
     run-is e j =
         from-same (run l (getD rows j 0 * w + getD columns 0 0)) (picked l (getD rows j 0 * w) columns) 0 17
-        (λ i b. ap (λ (n : ℕ). whole (getD l n 0)) (go (getD rows j 0 * w) (getD columns 0 0) i (column-run e i b)))
+        (λ i b. ap (λ (n : ℕ). f32Of (getD l n 0)) (go (getD rows j 0 * w) (getD columns 0 0) i (column-run e i b)))
       where
         go : (a f i : ℕ) {c : ℕ} → c ≡ f + i → a + f + i ≡ a + c
         go a f i e = omega arith
@@ -162,7 +162,7 @@ module _ (l : List ℕ) (w h : ℕ) (origin centre : List ℤ) where
     picked-is : (j i : ℕ) → j < 17 → i < 17 → picked l (getD rows j 0 * w) columns i ≡ tile l w h origin centre j i
     unfolding pixel
     picked-is j i a b =
-        rw (ne-eqb w 0 p, ne-eqb h 0 q) (λ t. whole (getD l (row-is j a t * w + column-is i b t) 0))
+        rw (ne-eqb w 0 p, ne-eqb h 0 q) (λ t. f32Of (getD l (row-is j a t * w + column-is i b t) 0))
 
     pub tile-is : {samples₀ samples : List Float} {j : ℕ} → length samples₀ ≡ 289 → Rows (rowOf l w columns rows) samples₀ 17 (j * 17) j samples → 17 ≤ j
         → samples ≡ inRows (tile l w h origin centre) 289

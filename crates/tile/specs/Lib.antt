@@ -1,3 +1,5 @@
+pub mod Refusal
 pub mod Tile
-pub mod Laid
 pub mod Width
+pub mod Picked
+pub mod Examples

@@ -1,2 +1,3 @@
 pub mod Codes
 pub mod Noise
+pub mod Demand1

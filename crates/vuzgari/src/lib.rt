@@ -3,14 +3,15 @@ ghost use mathlib.Core.Path.{_≡_};
 ghost use mathlib.Core.List.{[], _∷_};
 ghost use Rattle.grid.specs.Needed.{sizingOf};
 ghost use Rattle.edge.specs.Edge.{edge};
-ghost use Rattle.edge.specs.Code.{code};
-ghost use Rattle.vuzgari.specs.Codes.{codeOf};
-ghost use Rattle.vuzgari.specs.Noise.{noiseOf};
+ghost use Rattle.noise.specs.Call.{leftInts, leftFloats};
+ghost use Rattle.vuzgari.specs.Codes.{sizeCode, widthCode};
+ghost use Rattle.vuzgari.specs.Noise.{noiseFor, leftBytes};
+use tile::EdgeWidth;
 
 // M for an image of w by h, or 4,294,967,296 plus the number of a refusal. The noise call needs 3M i32 and 2M + 2 f32.
 #[no_mangle]
 pub extern "C" fn vuzgari_noise_windows(w: usize, h: usize) -> u64
-    ensures { λ r. ⌜ r ≡ codeOf (sizingOf w h) ⌝ }
+    ensures { λ r. ⌜ r ≡ sizeCode (sizingOf w h) ⌝ }
 {
     let size = grid::sizing(w, h);
     match size {
@@ -30,14 +31,15 @@ pub extern "C" fn vuzgari_noise(
     floats: &mut [f32],
     out: &mut [u8],
 ) -> u32
-    ensures { λ r. ⌜ (r ≡ noiseOf (now (pixels .entry)) w h (now (ints .entry)) (now (floats .entry)) (now (out .entry)) .number)
-        × (now (ints .exit) ≡ noiseOf (now (pixels .entry)) w h (now (ints .entry)) (now (floats .entry)) (now (out .entry)) .ints)
-        × (now (floats .exit) ≡ noiseOf (now (pixels .entry)) w h (now (ints .entry)) (now (floats .entry)) (now (out .entry)) .floats)
-        × (now (out .exit) ≡ noiseOf (now (pixels .entry)) w h (now (ints .entry)) (now (floats .entry)) (now (out .entry)) .bytes) ⌝ }
+    ensures { λ r. ⌜ (r ≡ noiseFor (now (pixels .entry)) w h (now (ints .entry)) (now (floats .entry)) (now (out .entry)) .number)
+        × (now (ints .exit) ≡ leftInts r w h (now (ints .entry)))
+        × (now (floats .exit) ≡ leftFloats r w h (now (floats .entry)))
+        × (now (out .exit) ≡ leftBytes (now (out .entry))
+        (noiseFor (now (pixels .entry)) w h (now (ints .entry)) (now (floats .entry)) (now (out .entry)))) ⌝ }
 {
-    let j = noise::judge(pixels.len(), w, h, ints.len(), floats.len());
-    let cause = j.number;
-    let m = j.windows;
+    let verdict = noise::judge(pixels.len(), w, h, ints.len(), floats.len());
+    let cause = verdict.number;
+    let m = verdict.windows;
     if cause != 0 {
         return cause;
     }
@@ -48,6 +50,16 @@ pub extern "C" fn vuzgari_noise(
     let number = a.number;
     answer::put(out, a);
     number
+}
+
+// A width by its bits, or a number past them.
+fn width_code(e: EdgeWidth) -> u64
+    ensures { λ r. ⌜ r ≡ widthCode e ⌝ }
+{
+    match e {
+        EdgeWidth::Width(x) => laws::wide(float::bits32(x)),
+        EdgeWidth::Refused(n) => 4_294_967_296 + laws::wide(n),
+    }
 }
 
 // The edge call for C, with origin (ox, oy) and centre (cx, cy): the width's bits, or 4,294,967,296 plus the number.
@@ -61,7 +73,7 @@ pub extern "C" fn vuzgari_edge_width(
     cx: i32,
     cy: i32,
 ) -> u64
-    ensures { λ r. ⌜ r ≡ code (edge (now (pixels .entry)) width height (ox ∷ oy ∷ []) (cx ∷ cy ∷ [])) ⌝ }
+    ensures { λ r. ⌜ r ≡ widthCode (edge (now (pixels .entry)) width height (ox ∷ oy ∷ []) (cx ∷ cy ∷ [])) ⌝ }
 {
-    edge::code(edge::edge_width(pixels, width, height, [ox, oy], [cx, cy]))
+    width_code(edge::view_edge_width(pixels, width, height, [ox, oy], [cx, cy]))
 }

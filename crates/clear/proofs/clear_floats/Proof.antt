@@ -2,14 +2,15 @@
 use mathlib.Core.Path.{refl}
 use Prim.Native.Nat.{ℕ, _-_}
 use native.Mathlib.Omega.{arith}
-use lib.Ieee.{ofBits, binary32}
+use lib.Ieee.{ofBits}
+use Rattle.ieee.specs.Numbers.{plusZero}
 use Rattle.laws.proofs.Fill.{Front, front-start, front-put}
 use Rattle.clear.proofs.Fronts.{front-cleared}
 use Rattle.clear.proofs.clear_floats.Statement.{statement}
 use Rattle.clear.proofs.clear_floats.Tie as tie
 
 abbrev Inv-loop : tie.InvT-loop
-Inv-loop s₀ n k₀ s k = Front (λ (_ : ℕ). ofBits binary32 0) s₀ n k s
+Inv-loop s₀ n k₀ s k = Front (λ (_ : ℕ). plusZero) s₀ n k s
 
 abbrev μ-loop : tie.MeasureT-loop
 μ-loop s₀ n k₀ s k = n - k
@@ -30,6 +31,7 @@ loop-less : tie.Need-loop-less Inv-loop μ-loop
 loop-less c = omega arith
 
 loop-again : tie.Need-loop-again Inv-loop μ-loop
+unfolding ofBits
 loop-again c = front-put (c .before .loop .inv) (c .loop-test .taken) (c .before .before .pre) refl
 
 same-length : tie.Need-same-length Inv-loop μ-loop

@@ -1,5 +1,5 @@
 -- The root of the sum as it is written. Assumes nothing.
-use lib.Ieee.{ofBits}
+use lib.Ieee.{ofBits, ofInt}
 use borrow.Author.Needs.{needs}
 use Rattle.covariance.specs.Noise.{grown}
 use Rattle.covariance.proofs.grown_by.Statement.{statement}
@@ -9,7 +9,7 @@ root-of-requires : tie.Need-root-of-requires
 root-of-requires c κs = search needs
 
 returns : tie.Need-returns
-unfolding grown ofBits
+unfolding grown ofBits ofInt
 returns c = c .root-of .ensures
 
 pub grown-by-spec : {M : Type 1} → statement M

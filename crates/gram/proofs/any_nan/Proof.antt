@@ -3,7 +3,7 @@ use Prim.Native.Nat.{_≤_, _-_}
 use mathlib.Core.Path.{_≡_, refl}
 use denote.Ref.{now}
 use native.Mathlib.Omega.{arith}
-use Rattle.gram.specs.Gram.{anyNan}
+use Rattle.gram.specs.Loops.{anyNan}
 use Rattle.gram.proofs.Nans.{any-more, any-end}
 use Rattle.gram.proofs.any_nan.Statement.{statement}
 use Rattle.gram.proofs.any_nan.Tie as tie

@@ -1,8 +1,8 @@
--- A NaN is refused; without one, three totals of one loop's sums, judged together. Assumes nothing.
+-- A NaN is refused; without one, three sums by one loop, judged together. Assumes nothing.
 use mathlib.Core.Path.{sym, ap, _∙_}
 use denote.Ref.{now}
 use Rattle.refine.specs.Covariance.{judged}
-use Rattle.gram.specs.Gram.{Plain}
+use Rattle.gram.specs.Loops.{Plain}
 use Rattle.gram.proofs.Sums.{sums-are}
 use Rattle.gram.proofs.Nans.{refused}
 use borrow.Author.Needs.{needs}

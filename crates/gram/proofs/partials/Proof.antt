@@ -3,7 +3,7 @@ use Prim.Native.Nat.{_^_, _<_, _≤_, _-_}
 use lib.ListN.{length}
 use denote.Ref.{now}
 use native.Mathlib.Omega.{arith}
-use Rattle.gram.specs.Gram.{FourSums}
+use Rattle.gram.specs.Loops.{FourSums}
 use Rattle.gram.proofs.Sums.{fours-end, fours-start, fours-more}
 use borrow.Author.Needs.{needs}
 use Rattle.gram.proofs.partials.Statement.{statement}
@@ -36,26 +36,26 @@ loop-holds c = (omega arith, fours-start _ _ (c .before .before .before .none .e
 mul-i : tie.Need-mul-i Inv-loop μ-loop
 mul-i c = omega arith
 
-plus-requires : tie.Need-plus-requires Inv-loop μ-loop
-plus-requires c κs = (c .before .before .before .before .before .before .before .before .pre, omega arith)
+with-products-requires : tie.Need-with-products-requires Inv-loop μ-loop
+with-products-requires c κs = (c .before .before .before .before .before .before .before .before .pre, omega arith)
 
-add-plus : tie.Need-add-plus Inv-loop μ-loop
-add-plus c = omega arith
+add-with-products : tie.Need-add-with-products Inv-loop μ-loop
+add-with-products c = omega arith
 
-plus-requires-2 : tie.Need-plus-requires-2 Inv-loop μ-loop
-plus-requires-2 c κs = (c .before .before .before .before .before .before .before .before .before .pre, omega arith)
+with-products-requires-2 : tie.Need-with-products-requires-2 Inv-loop μ-loop
+with-products-requires-2 c κs = (c .before .before .before .before .before .before .before .before .before .pre, omega arith)
 
-add-plus-2 : tie.Need-add-plus-2 Inv-loop μ-loop
-add-plus-2 c = omega arith
+add-with-products-2 : tie.Need-add-with-products-2 Inv-loop μ-loop
+add-with-products-2 c = omega arith
 
-plus-requires-3 : tie.Need-plus-requires-3 Inv-loop μ-loop
-plus-requires-3 c κs = (c .before .before .before .before .before .before .before .before .before .before .pre, omega arith)
+with-products-requires-3 : tie.Need-with-products-requires-3 Inv-loop μ-loop
+with-products-requires-3 c κs = (c .before .before .before .before .before .before .before .before .before .before .pre, omega arith)
 
-add-plus-3 : tie.Need-add-plus-3 Inv-loop μ-loop
-add-plus-3 c = omega (arith, long (c .before .before .before .before .before .before .before .before .before .before .before))
+add-with-products-3 : tie.Need-add-with-products-3 Inv-loop μ-loop
+add-with-products-3 c = omega (arith, long (c .before .before .before .before .before .before .before .before .before .before .before))
 
-plus-requires-4 : tie.Need-plus-requires-4 Inv-loop μ-loop
-plus-requires-4 c κs = (c .before .before .before .before .before .before .before .before .before .before .before .pre, omega arith)
+with-products-requires-4 : tie.Need-with-products-requires-4 Inv-loop μ-loop
+with-products-requires-4 c κs = (c .before .before .before .before .before .before .before .before .before .before .before .pre, omega arith)
 
 add-k : tie.Need-add-k Inv-loop μ-loop
 add-k c = omega (arith, long (c .before .before .before .before .before .before .before .before .before .before .before .before))
@@ -67,8 +67,8 @@ loop-again : tie.Need-loop-again Inv-loop μ-loop
 loop-again c =
     let t = c .before .before .before in (
       omega arith,
-      fours-more _ _ (t .before .before .loop .inv .1) (t .plus .ensures) (omega arith) (c .before .before .plus2 .ensures) (omega arith)
-          (c .before .plus3 .ensures) (omega arith) (c .plus4 .ensures) (omega arith),
+      fours-more _ _ (t .before .before .loop .inv .1) (t .with-products .ensures) (omega arith) (c .before .before .with-products2 .ensures) (omega arith)
+          (c .before .with-products3 .ensures) (omega arith) (c .with-products4 .ensures) (omega arith),
     )
 
 returns : tie.Need-returns Inv-loop μ-loop
@@ -86,13 +86,13 @@ partials-spec =
     none-requires-4
     loop-holds
     mul-i
-    plus-requires
-    add-plus
-    plus-requires-2
-    add-plus-2
-    plus-requires-3
-    add-plus-3
-    plus-requires-4
+    with-products-requires
+    add-with-products
+    with-products-requires-2
+    add-with-products-2
+    with-products-requires-3
+    add-with-products-3
+    with-products-requires-4
     add-k
     loop-less
     loop-again

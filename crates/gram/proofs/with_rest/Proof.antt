@@ -3,7 +3,7 @@ use Prim.Native.Nat.{_+_, _*_, _/_, _≤_, _-_}
 use native.Mathlib.Omega.{arith}
 use lib.ListN.{length}
 use denote.Ref.{now}
-use Rattle.gram.specs.Gram.{Added}
+use Rattle.gram.specs.Loops.{Added}
 use Rattle.gram.proofs.Sums.{added-start, added-more, added-end}
 use Rattle.gram.proofs.with_rest.Statement.{statement}
 use Rattle.gram.proofs.with_rest.Tie as tie
@@ -23,8 +23,8 @@ loop-holds c = (omega arith, added-start _ _ _ _ _)
 add-i : tie.Need-add-i Inv-loop μ-loop
 add-i c = omega arith
 
-plus-requires : tie.Need-plus-requires Inv-loop μ-loop
-plus-requires c κs = (c .before .before .before .before .pre, omega arith)
+with-products-requires : tie.Need-with-products-requires Inv-loop μ-loop
+with-products-requires c κs = (c .before .before .before .before .pre, omega arith)
 
 add-k : tie.Need-add-k Inv-loop μ-loop
 add-k c = omega arith
@@ -35,7 +35,7 @@ loop-less c = omega arith
 loop-again : tie.Need-loop-again Inv-loop μ-loop
 loop-again c =
     let l = c .before .before in let s = l .before .before .before in let n = length (now (s .args .gx)) in
-    (omega arith, added-more _ _ 1 (n / 4 * 4) (s .args .s) (l .loop .k) (n / 4 * 4 + l .loop .k) (l .loop .inv .1) (omega arith) (c .plus .ensures))
+    (omega arith, added-more _ _ 1 (n / 4 * 4) (s .args .s) (l .loop .k) (n / 4 * 4 + l .loop .k) (l .loop .inv .1) (omega arith) (c .with-products .ensures))
 
 returns : tie.Need-returns Inv-loop μ-loop
 returns c = added-end _ _ 1 _ _ (c .before .loop .inv .1) (c .before .loop .inv .0) (c .loop-test .left)
@@ -49,7 +49,7 @@ with-rest-spec =
     mul-first
     loop-holds
     add-i
-    plus-requires
+    with-products-requires
     add-k
     loop-less
     loop-again

@@ -4,7 +4,8 @@ use denote.Ref.{now}
 use Prim.Native.Nat.{_+_, _<_}
 use native.Mathlib.Omega.{arith}
 use borrow.Author.Needs.{needs}
-use Rattle.knots.specs.Places.{Inside, column}
+use Rattle.knots.specs.Places.{valueAt}
+use Rattle.knots.specs.Loops.{Inside}
 use Rattle.knots.proofs.interpolated.Statement.{statement}
 use Rattle.knots.proofs.interpolated.Tie as tie
 
@@ -45,12 +46,12 @@ blended-requires : tie.Need-blended-requires
 blended-requires c κs = search needs
 
 returns : tie.Need-returns
-unfolding column
-returns c = let k = c .before .before in ap (column (now (k .before .before .args .values))) (sym (k .p .given .1))
+unfolding valueAt
+returns c = let k = c .before .before in ap (valueAt (now (k .before .before .args .values))) (sym (k .p .given .1))
 
 returns-2 : tie.Need-returns-2
-unfolding column
-returns-2 c = let k = c .before .before .before .before in c .blended .ensures ∙ ap (column (now (k .before .before .args .values))) (sym (k .p2 .given .1))
+unfolding valueAt
+returns-2 c = let k = c .before .before .before .before in c .blended .ensures ∙ ap (valueAt (now (k .before .before .args .values))) (sym (k .p2 .given .1))
 
 pub interpolated-spec : {M : Type 1} → statement M
 interpolated-spec =

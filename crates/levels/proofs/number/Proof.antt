@@ -10,11 +10,12 @@ use mir.Val.{Fits, ofZ, toZ}
 use mir.Facts.{toZ-ofZ}
 use lib.Ieee.{Float, binary32, inFloat, inSigned, toSigned}
 use lib.Ieee.Back.{positive-back}
-use Rattle.levels.specs.Whole.{whole, Upto}
+use Rattle.ieee.specs.Numbers.{f32Of}
+use Rattle.levels.specs.Whole.{Upto}
 use Rattle.levels.proofs.number.Statement.{statement}
 use Rattle.levels.proofs.number.Tie as tie
 
-back : (n : ℕ) → n ≤ 65280 → T (inSigned binary32 31 (whole n)) × (toSigned 31 (whole n) ≡ pos n)
+back : (n : ℕ) → n ≤ 65280 → T (inSigned binary32 31 (f32Of n)) × (toSigned 31 (f32Of n) ≡ pos n)
 unfolding inFloat
 back n h = positive-back binary32 31 n (le→leb n 16777216 (omega arith)) (omega arith)
 
@@ -33,7 +34,7 @@ cast-result c =
 returns : tie.Need-returns
 returns c =
     let u = c .before .pre in
-    subst (λ (z : ℤ). (c .before .args .v ≡ whole (natAbs z)) × (natAbs z ≤ 65280)) (sym (read u)) (u .is, u .small)
+    subst (λ (z : ℤ). (c .before .args .v ≡ f32Of (natAbs z)) × (natAbs z ≤ 65280)) (sym (read u)) (u .is, u .small)
 
 pub number-spec : {M : Type 1} → statement M
 number-spec = tie.close (tie.spec float-to-int-result cast-result returns)

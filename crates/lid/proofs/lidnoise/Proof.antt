@@ -1,13 +1,13 @@
 -- The report of the input's answer.
 use denote.Ref.{now}
-use Rattle.lid.proofs.Reports.{answered}
+use Rattle.lid.proofs.Answers.{answered}
 use borrow.Author.Needs.{needs}
 use Rattle.lid.proofs.lidnoise.Statement.{statement}
 use Rattle.lid.proofs.lidnoise.Tie as tie
 use Rattle.lid.proofs.lidnoise.Reads as reads
 use Rattle.lid.proofs.lidnoise.Lts as lts
 use Rattle.lid.proofs.answer_to.Reads as answer-to-reads
-use Rattle.lid.proofs.print.Reads as print-reads
+use Rattle.lid_bytes.proofs.print.Reads as print-reads
 
 answer-to-requires : tie.Need-answer-to-requires
 answer-to-requires c κs = search needs

@@ -7,7 +7,8 @@ use lib.ListN.{length, take, drop, length-drop}
 use lib.Seq.{take-all}
 use denote.Ref.{now}
 use Rattle.answer.specs.declared.Answer.{Answer}
-use Rattle.lid.specs.Answer.{noiseAnswer}
+use mathlib.Core.Bool.{false}
+use Rattle.noise.specs.Call.{noiseOf}
 use borrow.Author.Needs.{needs}
 use Rattle.lid.proofs.measure_from.Statement.{statement}
 use Rattle.lid.proofs.measure_from.Tie as tie
@@ -15,8 +16,8 @@ use Rattle.lid.proofs.measure_from.Reads as reads
 use Rattle.lid.proofs.measure_from.Lts as lts
 use Rattle.lid.proofs.measure.Reads as measure-reads
 
-rest : (l : List ℕ) (at w h : ℕ) {r : Answer} → r ≡ noiseAnswer (take (length l - at) (drop at l)) w h → r ≡ noiseAnswer (drop at l) w h
-rest l at w h e = e ∙ ap (λ (m : List ℕ). noiseAnswer m w h) (take-all (length l - at) (drop at l) (omega (arith, length-drop at l)))
+rest : (l : List ℕ) (at w h : ℕ) {r : Answer} → r ≡ noiseOf (take (length l - at) (drop at l)) w h false → r ≡ noiseOf (drop at l) w h false
+rest l at w h e = e ∙ ap (λ (m : List ℕ). noiseOf m w h false) (take-all (length l - at) (drop at l) (omega (arith, length-drop at l)))
 
 sub-measure : tie.Need-sub-measure
 sub-measure c = search needs

@@ -1,9 +1,9 @@
 -- Each column at the width's place, which lies among the knots. Assumes nothing.
 use mathlib.Core.Path.{sym, subst}
 use borrow.Author.Needs.{needs}
-use Rattle.knots.specs.Places.{Inside}
+use Rattle.knots.specs.Loops.{Inside}
 use Rattle.knots.proofs.Tables.{place-in}
-use Rattle.model.proofs.Formulas.{found-is}
+use Rattle.model.proofs.Formulas.{pair-is}
 use Rattle.model.proofs.at_knots.Statement.{statement}
 use Rattle.model.proofs.at_knots.Tie as tie
 
@@ -20,7 +20,7 @@ interpolated-requires-2 : tie.Need-interpolated-requires-2
 interpolated-requires-2 c κs = among (c .before)
 
 returns : tie.Need-returns
-returns c = found-is _ _ _ _ _ (c .before .before .place-of .ensures) (c .before .interpolated .ensures) (c .interpolated2 .ensures)
+returns c = pair-is _ _ _ _ _ (c .before .before .place-of .ensures) (c .before .interpolated .ensures) (c .interpolated2 .ensures)
 
 pub at-knots-spec : {M : Type 1} → statement M
 at-knots-spec =

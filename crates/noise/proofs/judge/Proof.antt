@@ -1,109 +1,113 @@
 -- `judge` meets its contract, cause by cause.
-use mathlib.Core.Path.{_≡_, refl, ap, _∙_}
-use mathlib.Core.Bool.{Bool, cond}
-use Prim.Native.Nat.{ℕ, _≤_}
+use mathlib.Core.Path.{_≡_, sym, _∙_}
+use Prim.Native.Nat.{_≤_}
 use native.Mathlib.Omega.{arith}
-use native.Mathlib.Nat.{mul-le-mul}
-use Rattle.noise.specs.Refusals.{shortOf, refusalOf}
-use Rattle.noise.proofs.Causes.{above-w, above-h, unlike, below-w, below-h, sides, by-memory, short-ints, short-floats, enough, needed-most, judged-no, judged-yes}
+use Rattle.noise.proofs.Causes.{verdict-image, verdict-side, fit, needed-few, verdict-ints, verdict-floats, verdict-none}
 use borrow.Author.Needs.{needs}
 use Rattle.noise.proofs.judge.Statement.{statement}
 use Rattle.noise.proofs.judge.Tie as tie
 
+judge-requires : tie.Need-judge-requires
+judge-requires c κs = search needs
+
+against-requires : tie.Need-against-requires
+against-requires c κs = search needs
+
 returns : tie.Need-returns
 returns c =
-    let a = c .before .args in
-    let s = shortOf (a .w) (a .h) (a .ints) (a .floats) in
-    judged-no (a .pixels) (a .w) (a .h) (a .ints) (a .floats) 1 refl (above-w (a .pixels) (a .w) (a .h) s (c .if1 .taken))
+    let j = c .before .before in
+    let a = j .before .args in
+    verdict-image (a .pixels) (a .w) (a .h) (a .ints) (a .floats) (j .judge .result) (j .judge .ensures) (c .before .if1 .taken) (c .against .ensures)
+
+too-small-requires : tie.Need-too-small-requires
+too-small-requires c κs = search needs
+
+against-requires-2 : tie.Need-against-requires-2
+against-requires-2 c κs = search needs
 
 returns-2 : tie.Need-returns-2
 returns-2 c =
-    let a = c .before .before .args in
-    let s = shortOf (a .w) (a .h) (a .ints) (a .floats) in
-    judged-no (a .pixels) (a .w) (a .h) (a .ints) (a .floats) 1 refl (above-h (a .pixels) (a .w) (a .h) s (c .before .if1 .left) (c .if2 .taken))
-
-mul-if3 : tie.Need-mul-if3
-mul-if3 c = omega (arith, mul-le-mul (c .before .if1 .left) (c .if2 .left))
-
-returns-3 : tie.Need-returns-3
-returns-3 c =
-    let a = c .before .before .before .args in
-    let s = shortOf (a .w) (a .h) (a .ints) (a .floats) in
-    judged-no (a .pixels) (a .w) (a .h) (a .ints) (a .floats) 2 refl (unlike (a .pixels) (a .w) (a .h) (c .before .before .if1 .left) (c .before .if2 .left) s (c .if3 .taken))
-
-returns-4 : tie.Need-returns-4
-returns-4 c =
-    let a = c .before .before .before .before .args in
-    let s = shortOf (a .w) (a .h) (a .ints) (a .floats) in
-    judged-no (a .pixels) (a .w) (a .h) (a .ints) (a .floats) 3 refl (below-w (a .pixels) (a .w) (a .h) (c .before .before .before .if1 .left) (c .before .before .if2 .left) (c .before .if3 .left) s (c .if4 .taken))
-
-returns-5 : tie.Need-returns-5
-returns-5 c =
-    let a = c .before .before .before .before .before .args in
-    let s = shortOf (a .w) (a .h) (a .ints) (a .floats) in
-    judged-no (a .pixels) (a .w) (a .h) (a .ints) (a .floats) 3 refl (below-h (a .pixels) (a .w) (a .h) (c .before .before .before .before .if1 .left) (c .before .before .before .if2 .left) (c .before .before .if3 .left) s (c .before .if4 .left) (c .if5 .taken))
+    let t = c .before .before in
+    let j = t .before .before in
+    let a = j .before .args in
+    verdict-side (a .pixels) (a .w) (a .h) (a .ints) (a .floats) (j .judge .result) (j .judge .ensures) (t .before .if1 .left)
+    (sym (t .too-small .ensures) ∙ c .before .if2 .taken) (c .against2 .ensures)
 
 needed-requires : tie.Need-needed-requires
-needed-requires c κs = search needs
-
--- past the sides and the pixels only the memory is left to judge
-by : (c : tie.After-needed) → (short : Bool) → let a = c .before .before .before .before .before .before .args in refusalOf (a .pixels) (a .w) (a .h) short ≡ cond short 4 0
-by c =
-    let e = c .before in
-    let a = e .before .before .before .before .before .args in
-    by-memory (a .pixels) (a .w) (a .h) (e .before .before .before .before .if1 .left) (e .before .before .before .if2 .left) (e .before .before .if3 .left) (e .before .if4 .left) (e .if5 .left)
+needed-requires c κs =
+    let t = c .before in
+    let j = t .before .before in
+    let a = j .before .args in
+    fit (a .pixels) (a .w) (a .h) (a .ints) (a .floats) (j .judge .result) (j .judge .ensures) (t .before .if1 .left)
+    (sym (t .too-small .ensures) ∙ c .if2 .left)
 
 small : (c : tie.After-needed) → c .needed .result ≤ 268435456
 small c =
-    let e = c .before in
-    let a = e .before .before .before .before .before .args in
-    omega (arith, c .needed .ensures, needed-most (a .w) (a .h) (sides (a .pixels) (a .w) (a .h) (e .before .before .before .before .if1 .left) (e .before .before .before .if2 .left) (e .before .before .if3 .left) (e .before .if4 .left) (e .if5 .left)))
+    let t = c .before .before in
+    let j = t .before .before in
+    let a = j .before .args in
+    needed-few (a .pixels) (a .w) (a .h) (a .ints) (a .floats) (j .judge .result) (j .judge .ensures) (t .before .if1 .left)
+    (sym (t .too-small .ensures) ∙ c .before .if2 .left) (c .needed .result) (c .needed .ensures)
 
-mul-if6 : tie.Need-mul-if6
-mul-if6 c = omega (arith, small c)
+mul-if3 : tie.Need-mul-if3
+mul-if3 c = omega (arith, small c)
 
-returns-6 : tie.Need-returns-6
-returns-6 c =
-    let n = c .before in
-    let a = n .before .before .before .before .before .before .args in
-    let s = shortOf (a .w) (a .h) (a .ints) (a .floats) in
-    judged-no (a .pixels) (a .w) (a .h) (a .ints) (a .floats) 4 refl (by n s ∙ ap (λ (b : Bool). cond b 4 0) (short-ints (a .w) (a .h) (a .ints) (a .floats) (n .needed .result) (n .needed .ensures) (c .if6 .taken)))
+against-requires-3 : tie.Need-against-requires-3
+against-requires-3 c κs = search needs
 
-mul-if7 : tie.Need-mul-if7
-mul-if7 c = search needs
-
-add-if7 : tie.Need-add-if7
-add-if7 c = search needs
-
-returns-7 : tie.Need-returns-7
-returns-7 c =
+returns-3 : tie.Need-returns-3
+returns-3 c =
     let n = c .before .before in
-    let a = n .before .before .before .before .before .before .args in
-    let s = shortOf (a .w) (a .h) (a .ints) (a .floats) in
-    judged-no (a .pixels) (a .w) (a .h) (a .ints) (a .floats) 4 refl (by n s ∙ ap (λ (b : Bool). cond b 4 0) (short-floats (a .w) (a .h) (a .ints) (a .floats) (n .needed .result) (n .needed .ensures) (c .before .if6 .left) (c .if7 .taken)))
+    let t = n .before .before in
+    let j = t .before .before in
+    let a = j .before .args in
+    verdict-ints (a .pixels) (a .w) (a .h) (a .ints) (a .floats) (j .judge .result) (j .judge .ensures) (t .before .if1 .left)
+    (sym (t .too-small .ensures) ∙ n .before .if2 .left) (n .needed .result) (n .needed .ensures) (c .before .if3 .taken) (c .against3 .ensures)
 
-returns-8 : tie.Need-returns-8
-returns-8 c =
+mul-if4 : tie.Need-mul-if4
+mul-if4 c = search needs
+
+add-if4 : tie.Need-add-if4
+add-if4 c = search needs
+
+against-requires-4 : tie.Need-against-requires-4
+against-requires-4 c κs = search needs
+
+returns-4 : tie.Need-returns-4
+returns-4 c =
+    let n = c .before .before .before in
+    let t = n .before .before in
+    let j = t .before .before in
+    let a = j .before .args in
+    verdict-floats (a .pixels) (a .w) (a .h) (a .ints) (a .floats) (j .judge .result) (j .judge .ensures) (t .before .if1 .left)
+    (sym (t .too-small .ensures) ∙ n .before .if2 .left) (n .needed .result) (n .needed .ensures) (c .before .before .if3 .left) (c .before .if4 .taken)
+    (c .against4 .ensures)
+
+returns-5 : tie.Need-returns-5
+returns-5 c =
     let n = c .before .before in
-    let a = n .before .before .before .before .before .before .args in
-    let s = shortOf (a .w) (a .h) (a .ints) (a .floats) in
-    ap (λ (m : ℕ). record { number = 0; windows = m }) (n .needed .ensures)
-    ∙ judged-yes (a .pixels) (a .w) (a .h) (a .ints) (a .floats) (by n s ∙ ap (λ (b : Bool). cond b 4 0) (enough (a .w) (a .h) (a .ints) (a .floats) (n .needed .result) (n .needed .ensures) (c .before .if6 .left) (c .if7 .left)))
+    let t = n .before .before in
+    let j = t .before .before in
+    let a = j .before .args in
+    verdict-none (a .pixels) (a .w) (a .h) (a .ints) (a .floats) (j .judge .result) (j .judge .ensures) (t .before .if1 .left)
+    (sym (t .too-small .ensures) ∙ n .before .if2 .left) (n .needed .result) (n .needed .ensures) (c .before .if3 .left) (c .if4 .left)
 
 pub judge-spec : {M : Type 1} → statement M
 judge-spec =
     tie.close
     (tie.spec
+    judge-requires
+    against-requires
     returns
+    too-small-requires
+    against-requires-2
     returns-2
-    mul-if3
-    returns-3
-    returns-4
-    returns-5
     needed-requires
-    mul-if6
-    returns-6
-    mul-if7
-    add-if7
-    returns-7
-    returns-8)
+    mul-if3
+    against-requires-3
+    returns-3
+    mul-if4
+    add-if4
+    against-requires-4
+    returns-4
+    returns-5)

@@ -1,8 +1,5 @@
 -- `measure` meets its contract: what lies beyond the cleared front no pass has changed.
-use mathlib.Core.Path.{_∙_}
-use lib.IntN.{pos}
-use lib.Ieee.{binary32, ofBits}
-use Rattle.noise.proofs.Leaving.{cleared-beyond}
+use Rattle.noise.proofs.Passing.{cleared-ints, cleared-floats}
 use borrow.Author.Needs.{needs}
 use Rattle.noise.proofs.measure.Statement.{statement}
 use Rattle.noise.proofs.measure.Tie as tie
@@ -33,10 +30,11 @@ same-length-2 c = search needs
 
 returns : tie.Need-returns
 returns c =
-    let a = c .before .before .before .before .before .before .before .before .before .before in (
+    let a = c .before .before .before .before .before .before .before .before .before .before in
+    let s = a .before .before .before .before .before in (
       a .passes .ensures .0,
-      c .before .before .before .before .before .clear-ints .ensures ∙ cleared-beyond (pos 0) _ _ _ (a .passes .ensures .1),
-      c .before .before .clear-floats .ensures ∙ cleared-beyond (ofBits binary32 0) _ _ _ (a .passes .ensures .2),
+      cleared-ints (s .pre) (a .passes .ensures .1) (c .before .before .before .before .before .clear-ints .ensures),
+      cleared-floats (s .pre) (a .passes .ensures .2) (c .before .before .clear-floats .ensures),
     )
 
 pub measure-spec : {M : Type 1} → statement M

@@ -1,12 +1,12 @@
 -- `passes` meets its contract: the first pass decides, or it is the only one, or the second decides.
-use mathlib.Core.Path.{_≡_, _∙_}
+use mathlib.Core.Path.{_≡_, sym, _∙_}
 use native.Mathlib.Omega.{arith}
 use Prim.Native.Nat.{_*_}
 use denote.Ref.{now}
 use Rattle.grid.specs.Step.{stepOf}
 use Rattle.grid.specs.Needed.{firstW, secondW}
 use Rattle.measure.specs.Figures.{figuresOf}
-use Rattle.noise.proofs.Passing.{runs-first, runs-second, first-ints, first-floats, both-ints, both-floats, by-first, by-only, by-second, few-rounds}
+use Rattle.noise.proofs.Passing.{runs-first, runs-second, runs-one, runs-only, runs-two, one-ints, two-ints, one-floats, two-floats, by-first, by-only, by-second, few-rounds}
 use borrow.Author.Needs.{needs}
 use Rattle.noise.proofs.passes.Statement.{statement}
 use Rattle.noise.proofs.passes.Tie as tie
@@ -42,8 +42,8 @@ returns c =
     let a = c .before .before .before .before .before .before in
     let s = start a in (
       by-first (s .pre) (a .run .result) (c .ending-in .result) (a .run .ensures .0) (c .ending-in .ensures) (c .before .if1 .taken),
-      first-ints (s .pre) (a .run .ensures .1),
-      first-floats (s .pre) (a .run .ensures .2),
+      one-ints (s .pre) (a .run .ensures .1) (runs-one (s .pre) (a .run .result) (a .run .ensures .0) (c .before .if1 .taken)),
+      one-floats (s .pre) (a .run .ensures .2) (runs-one (s .pre) (a .run .result) (a .run .ensures .0) (c .before .if1 .taken)),
     )
 
 step-requires : tie.Need-step-requires
@@ -63,15 +63,15 @@ returns-2 c =
     let a = c .before .before .before .before .before .before .before .before in
     let s = start a in (
       by-only (s .pre) (a .run .result) (c .ending-in2 .result) (c .before .before .step .result) (a .run .ensures .0) (c .ending-in2 .ensures) (c .before .before .before .if1 .left) (c .before .before .step .ensures) (c .before .if2 .taken),
-      first-ints (s .pre) (a .run .ensures .1),
-      first-floats (s .pre) (a .run .ensures .2),
+      one-ints (s .pre) (a .run .ensures .1) (runs-only (s .pre) (a .run .result) (a .run .ensures .0) (sym (c .before .before .step .ensures) ∙ c .before .if2 .taken)),
+      one-floats (s .pre) (a .run .ensures .2) (runs-only (s .pre) (a .run .result) (a .run .ensures .0) (sym (c .before .before .step .ensures) ∙ c .before .if2 .taken)),
     )
 
 run-requires-2 : tie.Need-run-requires-2
 run-requires-2 c κs =
     let e = c .before .before in
     let a = first e in
-    runs-second (start a .pre) (more e) (a .run .last .1 .1 .1 .1 .0) (a .run .last .1 .1 .1 .1 .1 .0) (a .run .ensures .1 .long) (a .run .ensures .2 .long)
+    runs-second (start a .pre) (more e) (a .run .last .1 .1 .1 .1 .0) (a .run .last .1 .1 .1 .1 .1 .0) (a .run .kept .1 .1 .1 .1 .0) (a .run .kept .1 .1 .1 .1 .1 .0)
 
 add-ending-in : tie.Need-add-ending-in
 add-ending-in c =
@@ -86,22 +86,23 @@ ending-in-requires-3 c κs = search needs
 same-length-5 : tie.Need-same-length-5
 same-length-5 c =
     let b = second (c .before) in
-    b .run2 .ensures .1 .long ∙ first (b .before .before .before) .run .ensures .1 .long
+    b .run2 .kept .1 .1 .1 .1 .0 ∙ first (b .before .before .before) .run .kept .1 .1 .1 .1 .0
 
 same-length-6 : tie.Need-same-length-6
 same-length-6 c =
     let b = second (c .before) in
-    b .run2 .ensures .2 .long ∙ first (b .before .before .before) .run .ensures .2 .long
+    b .run2 .kept .1 .1 .1 .1 .1 .0 ∙ first (b .before .before .before) .run .kept .1 .1 .1 .1 .1 .0
 
 returns-3 : tie.Need-returns-3
 returns-3 c =
     let b = second (c .before) in
     let e = b .before .before .before in
     let a = first e in
-    let s = start a in (
+    let s = start a in
+    let two = runs-two (s .pre) (a .run .result) (a .run .ensures .0) (e .before .before .if1 .left) (more e) in (
       by-second (s .pre) (a .run .result) (b .run2 .result) (c .ending-in3 .result) (a .run .ensures .0) (b .run2 .ensures .0) (c .ending-in3 .ensures) (e .before .before .if1 .left) (more e),
-      both-ints (s .pre) (more e) (a .run .ensures .1) (b .run2 .ensures .1),
-      both-floats (s .pre) (more e) (a .run .ensures .2) (b .run2 .ensures .2),
+      two-ints (s .pre) (a .run .ensures .1) two (b .run2 .ensures .1),
+      two-floats (s .pre) (a .run .ensures .2) two (b .run2 .ensures .2),
     )
 
 pub passes-spec : {M : Type 1} → statement M

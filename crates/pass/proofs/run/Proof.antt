@@ -1,4 +1,4 @@
--- `run` meets its contract: the rounds find in the f32 slice what the figures of the windows say, and both slices change only as far as those reach.
+-- `run` meets its contract: the slices are as the figures were collected, and the rounds find in the f32 slice what those say.
 use mathlib.Core.Path.{_≡_}
 use mathlib.Core.List.{List}
 use denote.Ref.{now}
@@ -7,7 +7,7 @@ use Rattle.measure.specs.Figures.{figuresOf}
 use Rattle.sample.proofs.Parts.{figures-long}
 use Rattle.pass.specs.Pass.{noiseIn}
 use Rattle.pass.proofs.Bounds.{small}
-use Rattle.pass.proofs.Collected.{ints-beyond, floats-beyond, roomy, noise-found, passed}
+use Rattle.pass.proofs.Collected.{roomy, noise-found, passed}
 use borrow.Author.Needs.{needs}
 use Rattle.pass.proofs.run.Statement.{statement}
 use Rattle.pass.proofs.run.Tie as tie
@@ -58,8 +58,8 @@ returns c =
     let all = figures-long (now (a .img)) (a .w) (a .h) (a .windows) in (
       passed (figures d) _ all (now (a .floats)) (start d .pre .room-floats) (d .collect .result) (d .collect .ensures .0)
           (d .collect .last .1 .1 .1 .1 .1 .0) (d .collect .kept .1 .1 .1 .1 .1 .0) (d .collect .ensures .2) (c .before .noise-in .result) (c .pack .result) (noise-is (c .before)) (c .pack .ensures),
-      ints-beyond (figures d) _ all (now (a .ints)) (d .collect .last .1 .1 .1 .1 .0) (d .collect .kept .1 .1 .1 .1 .0) (d .collect .ensures .1),
-      floats-beyond (figures d) _ all (now (a .floats)) (start d .pre .room-floats) (d .collect .last .1 .1 .1 .1 .1 .0) (d .collect .kept .1 .1 .1 .1 .1 .0) (d .collect .ensures .2),
+      d .collect .ensures .1,
+      d .collect .ensures .2,
     )
 
 pub run-spec : {M : Type 1} → statement M

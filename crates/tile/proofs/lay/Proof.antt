@@ -4,7 +4,7 @@ use Prim.Native.Nat.{_-_}
 use native.Mathlib.Omega.{arith}
 use borrow.Author.Needs.{needs}
 use Rattle.laws.proofs.Fill.{Row, row-start, row-put, row-end}
-use Rattle.tile.specs.Laid.{picked}
+use Rattle.tile.specs.Picked.{picked}
 use Rattle.tile.proofs.lay.Statement.{statement}
 use Rattle.tile.proofs.lay.Tie as tie
 

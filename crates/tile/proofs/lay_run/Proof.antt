@@ -4,7 +4,7 @@ use Prim.Native.Nat.{_-_}
 use native.Mathlib.Omega.{arith}
 use borrow.Author.Needs.{needs}
 use Rattle.laws.proofs.Fill.{Row, row-start, row-put, row-end}
-use Rattle.tile.specs.Laid.{run}
+use Rattle.tile.specs.Picked.{run}
 use Rattle.tile.proofs.lay_run.Statement.{statement}
 use Rattle.tile.proofs.lay_run.Tie as tie
 

@@ -6,28 +6,28 @@ use borrow.Author.Needs.{needs}
 use lib.IntN.{ℤ}
 use mir.Facts.{toZ-ofZ}
 use denote.Ref.{now}
-use Rattle.tile.specs.Width.{Answer}
+use Rattle.tile.specs.declared.EdgeWidth.{EdgeWidth}
 use Rattle.edge.specs.Edge.{edge}
-use Rattle.edge.specs.Code as Code
+use Rattle.vuzgari.specs.Codes.{widthCode}
 use Rattle.vuzgari.proofs.vuzgari_edge_width.Statement.{statement}
 use Rattle.vuzgari.proofs.vuzgari_edge_width.Tie as tie
 
-same : (l : List ℕ) (w h : ℕ) {a b c d a′ b′ c′ d′ : ℤ} {r : Answer} → a ≡ a′ → b ≡ b′ → c ≡ c′ → d ≡ d′
+same : (l : List ℕ) (w h : ℕ) {a b c d a′ b′ c′ d′ : ℤ} {r : EdgeWidth} → a ≡ a′ → b ≡ b′ → c ≡ c′ → d ≡ d′
     → r ≡ edge l w h (a ∷ b ∷ []) (c ∷ d ∷ []) → r ≡ edge l w h (a′ ∷ b′ ∷ []) (c′ ∷ d′ ∷ [])
 same l w h p q r s e = e ∙ (λ i. edge l w h (p i ∷ q i ∷ []) (r i ∷ s i ∷ []))
 
-edge-width-requires : tie.Need-edge-width-requires
-edge-width-requires c κs = search needs
+view-edge-width-requires : tie.Need-view-edge-width-requires
+view-edge-width-requires c κs = search needs
 
-code-requires : tie.Need-code-requires
-code-requires c κs = search needs
+width-code-requires : tie.Need-width-code-requires
+width-code-requires c κs = search needs
 
 returns : tie.Need-returns
 returns c =
     let s = c .before .before .before in
-    c .code .ensures
-    ∙ ap Code.code (same (now (s .args .pixels)) (s .args .width) (s .args .height)
-    (toZ-ofZ (s .fits .ox)) (toZ-ofZ (s .fits .oy)) (toZ-ofZ (s .fits .cx)) (toZ-ofZ (s .fits .cy)) (c .before .edge-width .ensures))
+    c .width-code .ensures
+    ∙ ap widthCode (same (now (s .args .pixels)) (s .args .width) (s .args .height)
+    (toZ-ofZ (s .fits .ox)) (toZ-ofZ (s .fits .oy)) (toZ-ofZ (s .fits .cx)) (toZ-ofZ (s .fits .cy)) (c .before .view-edge-width .ensures))
 
 pub vuzgari-edge-width-spec : {M : Type 1} → statement M
-vuzgari-edge-width-spec = tie.close (tie.spec edge-width-requires code-requires returns)
+vuzgari-edge-width-spec = tie.close (tie.spec view-edge-width-requires width-code-requires returns)

@@ -1,7 +1,7 @@
 -- `vuzgari_noise` meets its contract: refused, too short an answer slice, or measured and written.
 use denote.Ref.{now}
 use Rattle.noise.proofs.Leaving.{ready}
-use Rattle.vuzgari.proofs.Calls.{refused, too-short, written}
+use Rattle.vuzgari.proofs.Calls.{refused-all, too-short, written}
 use borrow.Author.Needs.{needs}
 use Rattle.vuzgari.proofs.vuzgari_noise.Statement.{statement}
 use Rattle.vuzgari.proofs.vuzgari_noise.Tie as tie
@@ -16,7 +16,7 @@ returns : tie.Need-returns
 returns c =
     let j = c .before in
     let a = start j .args in
-    refused (now (a .pixels)) (a .w) (a .h) (now (a .ints)) (now (a .floats)) (now (a .out)) (j .judge .result) (j .judge .ensures) (c .if1 .taken)
+    refused-all (now (a .pixels)) (a .w) (a .h) (now (a .ints)) (now (a .floats)) (now (a .out)) (j .judge .result) (j .judge .ensures) (c .if1 .taken)
 
 returns-2 : tie.Need-returns-2
 returns-2 c =
@@ -48,7 +48,7 @@ returns-3 c =
     let j = d .before .before .before .before .before in
     let a = start j .args in
     written (now (a .pixels)) (a .w) (a .h) (now (a .ints)) (now (a .floats)) (now (a .out)) (j .judge .result) (j .judge .ensures) (d .before .before .before .before .if1 .left) (d .before .before .before .if2 .left)
-    (d .measure .result) (d .measure .last .1 .1 .1 .0) (d .measure .last .1 .1 .1 .1 .0) (c .before .before .put .last .0) (d .measure .ensures .0) (d .measure .ensures .1) (d .measure .ensures .2) (c .before .before .put .ensures)
+    (d .measure .result) (d .measure .ensures .0) (d .measure .ensures .1) (d .measure .ensures .2) (c .before .before .put .ensures)
 
 pub vuzgari-noise-spec : {M : Type 1} → statement M
 vuzgari-noise-spec =

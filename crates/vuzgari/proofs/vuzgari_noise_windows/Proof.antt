@@ -1,6 +1,6 @@
 -- `vuzgari_noise_windows` meets its contract: each case of the sizing call is coded by its number or figure.
 use mathlib.Core.Path.{sym, ap, _∙_}
-use Rattle.vuzgari.specs.Codes.{codeOf}
+use Rattle.vuzgari.specs.Codes.{sizeCode}
 use borrow.Author.Needs.{needs}
 use Rattle.vuzgari.proofs.vuzgari_noise_windows.Statement.{statement}
 use Rattle.vuzgari.proofs.vuzgari_noise_windows.Tie as tie
@@ -18,13 +18,13 @@ enum-told-2 : tie.Need-enum-told-2
 enum-told-2 c = search needs
 
 returns : tie.Need-returns
-returns c = ap codeOf (sym (c .before .size .given .1)) ∙ ap codeOf (c .before .before .before .sizing .ensures)
+returns c = ap sizeCode (sym (c .before .size .given .1)) ∙ ap sizeCode (c .before .before .before .sizing .ensures)
 
 returns-2 : tie.Need-returns-2
-returns-2 c = ap codeOf (sym (c .enum-told .given .1)) ∙ ap codeOf (c .before .before .sizing .ensures)
+returns-2 c = ap sizeCode (sym (c .enum-told .given .1)) ∙ ap sizeCode (c .before .before .sizing .ensures)
 
 returns-3 : tie.Need-returns-3
-returns-3 c = ap codeOf (sym (c .enum-told2 .given .1)) ∙ ap codeOf (c .before .before .sizing .ensures)
+returns-3 c = ap sizeCode (sym (c .enum-told2 .given .1)) ∙ ap sizeCode (c .before .before .sizing .ensures)
 
 pub vuzgari-noise-windows-spec : {M : Type 1} → statement M
 vuzgari-noise-windows-spec =

@@ -2,13 +2,13 @@
 use mathlib.Core.Path.{_≡_, ap, _∙_}
 use denote.Ref.{now}
 use borrow.Author.Needs.{needs}
-use Rattle.model.specs.declared.At.{At}
+use Rattle.compare.proofs.Answers.{at-of}
 use Rattle.model.specs.Knots.{table, atOf}
-use Rattle.compare.specs.Models.{wide, gained}
+use Rattle.compare.specs.Models.{widthFrom}
 use Rattle.compare.proofs.covariance_model.vuzgari_compare_at.Statement.{statement}
 use Rattle.compare.proofs.covariance_model.vuzgari_compare_at.Tie as tie
 
-answer : (c : tie.After-at) → let a = c .before .before .before .before .before .args in c .at .result ≡ atOf (table (a .count) (a .floor) (now (a .widths)) (now (a .gains)) (now (a .residuals))) (wide (a .known) (a .w))
+answer : (c : tie.After-at) → let a = c .before .before .before .before .before .args in c .at .result ≡ atOf (table (a .count) (a .floor) (now (a .widths)) (now (a .gains)) (now (a .residuals))) (widthFrom (a .known) (a .w))
 answer c =
     let a = c .before .before .before .before .before .args in
     c .at .ensures ∙ ap (atOf (table (a .count) (a .floor) (now (a .widths)) (now (a .gains)) (now (a .residuals)))) (c .before .width-of .ensures)
@@ -21,9 +21,11 @@ width-of-requires c κs = search needs
 at-requires : tie.Need-at-requires
 at-requires c κs = search needs
 
--- src/covariance_model.rt:26:1
+lay-at-requires : tie.Need-lay-at-requires
+lay-at-requires c κs = search needs
+
 returns : tie.Need-returns
-returns c = (ap (λ (r : At). r .number) (answer (c .before)), ap gained (answer (c .before)))
+returns c = at-of (answer (c .before .before)) (c .lay-at .ensures)
 
 pub vuzgari-compare-at-spec : {M : Type 1} → statement M
-vuzgari-compare-at-spec = tie.close (tie.spec width-of-requires at-requires returns)
+vuzgari-compare-at-spec = tie.close (tie.spec width-of-requires at-requires lay-at-requires returns)

@@ -3,10 +3,10 @@ use mathlib.Core.Path.{ap, _∙_}
 use denote.Ref.{now}
 use borrow.Author.Needs.{needs}
 use Rattle.refine.specs.declared.PositionCovariance.{PositionCovariance}
-use Rattle.compare.proofs.Answers.{told-of}
+use Rattle.compare.proofs.Answers.{model-of}
 use Rattle.knots.specs.declared.Width.{Width}
 use Rattle.model.specs.Model.{modelOf}
-use Rattle.compare.specs.Lent.{three}
+use Rattle.compare.specs.Lent.{covarianceFrom}
 use Rattle.model.specs.Knots.{table}
 use Rattle.compare.proofs.covariance_model.vuzgari_compare_model.Statement.{statement}
 use Rattle.compare.proofs.covariance_model.vuzgari_compare_model.Tie as tie
@@ -31,9 +31,9 @@ returns : tie.Need-returns
 returns c =
     let m = c .before .before in let w = m .before in let n = w .before in let a = n .before .before .before .before .before .args in
     let s = table (a .count) (a .floor) (now (a .widths)) (now (a .gains)) (now (a .residuals)) in
-    told-of
+    model-of
     (m .model .ensures ∙ ap (λ (d : PositionCovariance). modelOf s d (now (a .offset)) (w .width-of .result) (a .grid)) (n .covariance-of .ensures)
-    ∙ ap (λ (x : Width). modelOf s (three (now (a .noise))) (now (a .offset)) x (a .grid)) (w .width-of .ensures)) (c .lay .ensures)
+    ∙ ap (λ (x : Width). modelOf s (covarianceFrom (now (a .noise))) (now (a .offset)) x (a .grid)) (w .width-of .ensures)) (c .lay .ensures)
 
 pub vuzgari-compare-model-spec : {M : Type 1} → statement M
 vuzgari-compare-model-spec =

@@ -2,17 +2,15 @@
 use mathlib.Core.Path.{_≡_, ap, _∙_}
 use denote.Ref.{now}
 use borrow.Author.Needs.{needs}
-use Rattle.refine.specs.Covariance.{number, figures}
-use Rattle.refine.specs.declared.Judged.{Judged}
 use Rattle.covariance.specs.declared.CovarianceModel.{CovarianceModel}
-use Rattle.covariance.specs.Noise.{total}
-use Rattle.compare.specs.Lent.{entries}
-use Rattle.compare.specs.Models.{whole}
+use Rattle.covariance.specs.Noise.{totalAt}
+use Rattle.compare.proofs.Answers.{told-of}
+use Rattle.compare.specs.Models.{modelFrom}
 use Rattle.compare.proofs.covariance_model.vuzgari_compare_total.Statement.{statement}
 use Rattle.compare.proofs.covariance_model.vuzgari_compare_total.Tie as tie
 
-answer : (c : tie.After-total) → let a = c .before .before .args in c .total .result ≡ total (whole (now (a .noise)) (now (a .systematic)) (now (a .growth))) (a .sigma)
-answer c = c .total .ensures ∙ ap (λ (m : CovarianceModel). total m (c .before .before .args .sigma)) (c .before .model-of .ensures)
+answer : (c : tie.After-total) → let a = c .before .before .args in c .total .result ≡ totalAt (modelFrom (now (a .noise)) (now (a .systematic)) (now (a .growth))) (a .sigma)
+answer c = c .total .ensures ∙ ap (λ (m : CovarianceModel). totalAt m (c .before .before .args .sigma)) (c .before .model-of .ensures)
 
 -- src/covariance_model.rt:130:10
 model-of-requires : tie.Need-model-of-requires
@@ -28,7 +26,7 @@ told-requires c κs = search needs
 
 -- src/covariance_model.rt:120:1
 returns : tie.Need-returns
-returns c = let e = answer (c .before .before) in (c .told .ensures .0 ∙ ap number e, c .told .ensures .1 ∙ ap (λ (j : Judged). entries (figures j)) e)
+returns c = told-of (answer (c .before .before)) (c .told .ensures)
 
 pub vuzgari-compare-total-spec : {M : Type 1} → statement M
 vuzgari-compare-total-spec =

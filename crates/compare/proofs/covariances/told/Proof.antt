@@ -17,12 +17,12 @@ enum-known-answer-2 c = search needs
 
 -- src/covariances.rt:8:1
 returns : tie.Need-returns
-returns c = let e = c .before .before .answer .given .1 in (sym (ap number e), sym (ap (λ (j : Judged). entries (figures j)) e))
+returns c = let e = c .before .before .answer .given .1 in record { told = sym (ap number e); laid = sym (ap (λ (j : Judged). entries (figures j)) e) }
 
 -- src/covariances.rt:8:1
 returns-2 : tie.Need-returns-2
 unfolding ofBits
-returns-2 c = let e = c .before .before .answer2 .given .1 in (sym (ap number e), sym (ap (λ (j : Judged). entries (figures j)) e))
+returns-2 c = let e = c .before .before .answer2 .given .1 in record { told = sym (ap number e); laid = sym (ap (λ (j : Judged). entries (figures j)) e) }
 
 pub told-spec : {M : Type 1} → statement M
 told-spec = tie.close (tie.spec enum-known-answer enum-known-answer-2 returns returns-2)

@@ -5,13 +5,13 @@ use Prim.Native.Nat.{ℕ, _+_, _*_}
 use lib.Dec.{ltb}
 use lib.IntN.{pos}
 use lib.ListN.{getD}
-use lib.Ieee.{nan}
 use borrow.Author.Needs.{needs}
 use borrow.Author.Tests.{not-true, not-false, ltb-true}
-use Rattle.ieee.specs.Order.{finite}
 use Rattle.refine.proofs.Refusing.{and, and-left, and-right}
-use Rattle.support.specs.Ranges.{stateNumber}
-use Rattle.gradients.specs.Gradients.{column, row}
+use Rattle.support.specs.Support.{stateNumber, inSide}
+use Rattle.support.specs.Steps.{pastOrigin}
+use Rattle.gradients.specs.Gradients.{inSupport, bothFinite}
+use Rattle.support.proofs.Laws.{in-side, steps-are}
 use Rattle.support.proofs.Places.{place-held}
 use Rattle.support.proofs.Refusals.{small}
 use Rattle.gradients.proofs.Refusals.{add-state, add-12, add-11, add-0}
@@ -23,21 +23,24 @@ use Rattle.gradients.proofs.PixelGradients.add.Tie as tie
 no-number : (c : tie.Else1) → let s = c .before .before .before .args .t1 in 0 ≡ stateNumber (s .origin) (s .side)
 no-number c = sym (c .if1 .left) ∙ c .before .state-number .ensures
 
-finites : (c : tie.After-is-finite322) → let v = c .before .before .before .before .before .args .t4 in finite (getD v 0 nan) && finite (getD v 1 nan) ≡ c .before .is-finite32 .result && c .is-finite322 .result
+finites : (c : tie.After-is-finite322) → let v = c .before .before .before .before .before .args .t4 in bothFinite v ≡ c .before .is-finite32 .result && c .is-finite322 .result
 finites c = and (sym (c .before .is-finite32 .ensures)) (sym (c .is-finite322 .ensures))
 
-column-is : (c : tie.After-offset) → let a = c .before .before .before .before .before .before .before .before .args in c .offset .result ≡ column (a .t1) (a .x)
-column-is c = let a = c .before .before .before .before .before .before .before .before in place-held (a .args .x) (getD (a .args .t1 .origin) 0 (pos 0)) (a .args .t1 .side) (a .fits .x) (c .before .offset-arg .given) (c .offset .ensures)
+across-is : (c : tie.After-past-origin) → let a = c .before .before .before .before .before .before .before .before .args in
+    c .past-origin .result ≡ pastOrigin (a .x) (getD (a .t1 .origin) 0 (pos 0)) (a .t1 .side)
+across-is c = let a = c .before .before .before .before .before .before .before .before in place-held (a .args .x) (getD (a .args .t1 .origin) 0 (pos 0)) (a .args .t1 .side) (a .fits .x) (c .before .past-origin-arg .given) (c .past-origin .ensures)
 
-row-is : (c : tie.After-offset2) → let a = c .before .before .before .before .before .before .before .before .before .before .args in c .offset2 .result ≡ row (a .t1) (a .y)
-row-is c = let a = c .before .before .before .before .before .before .before .before .before .before in place-held (a .args .y) (getD (a .args .t1 .origin) 1 (pos 0)) (a .args .t1 .side) (a .fits .y) (c .before .offset-arg2 .given) (c .offset2 .ensures)
+down-is : (c : tie.After-past-origin2) → let a = c .before .before .before .before .before .before .before .before .before .before .args in
+    c .past-origin2 .result ≡ pastOrigin (a .y) (getD (a .t1 .origin) 1 (pos 0)) (a .t1 .side)
+down-is c = let a = c .before .before .before .before .before .before .before .before .before .before in place-held (a .args .y) (getD (a .args .t1 .origin) 1 (pos 0)) (a .args .t1 .side) (a .fits .y) (c .before .past-origin-arg2 .given) (c .past-origin2 .ensures)
 
 -- the two tests of the pixel
-insides : (c : tie.After-offset2) → let a = c .before .before .before .before .before .before .before .before .before .before .args in
-    ltb (column (a .t1) (a .x)) (a .t1 .side) && ltb (row (a .t1) (a .y)) (a .t1 .side) ≡ ltb (c .before .before .offset .result) (a .t1 .side) && ltb (c .offset2 .result) (a .t1 .side)
+insides : (c : tie.After-past-origin2) → let a = c .before .before .before .before .before .before .before .before .before .before .args in
+    inSupport (a .t1) (a .x) (a .y) ≡ ltb (c .before .before .past-origin .result) (a .t1 .side) && ltb (c .past-origin2 .result) (a .t1 .side)
 insides c =
-    let n = c .before .before .before .before .before .before .before .before .before .before .args .t1 .side in
-    and (ap (λ (k : ℕ). ltb k n) (sym (column-is (c .before .before)))) (ap (λ (k : ℕ). ltb k n) (sym (row-is c)))
+    let a = c .before .before .before .before .before .before .before .before .before .before .args in let n = a .t1 .side in
+    and (sym (in-side (a .x) (getD (a .t1 .origin) 0 (pos 0)) n) ∙ ap (λ (k : ℕ). ltb k n) (sym (across-is (c .before .before))))
+    (sym (in-side (a .y) (getD (a .t1 .origin) 1 (pos 0)) n) ∙ ap (λ (k : ℕ). ltb k n) (sym (down-is c)))
 
 cells : (n : ℕ) {i j i′ j′ : ℕ} → i ≡ i′ → j ≡ j′ → j * n + i ≡ j′ * n + i′
 cells n e f = cc
@@ -67,17 +70,17 @@ returns-2 c =
     let b = c .before in let e = b .before .before in let a = e .before .before .before .args in
     add-12 (a .t1) (a .x) (a .y) (a .t4) (no-number e) (finites b ∙ not-true _ (c .if2 .taken))
 
-array-copy-out-offset : tie.Need-array-copy-out-offset
-array-copy-out-offset c = search needs
+array-copy-out-past-origin : tie.Need-array-copy-out-past-origin
+array-copy-out-past-origin c = search needs
 
-offset-requires : tie.Need-offset-requires
-offset-requires c κs = search needs
+past-origin-requires : tie.Need-past-origin-requires
+past-origin-requires c κs = search needs
 
-array-copy-out-offset-2 : tie.Need-array-copy-out-offset-2
-array-copy-out-offset-2 c = search needs
+array-copy-out-past-origin-2 : tie.Need-array-copy-out-past-origin-2
+array-copy-out-past-origin-2 c = search needs
 
-offset-requires-2 : tie.Need-offset-requires-2
-offset-requires-2 c κs = search needs
+past-origin-requires-2 : tie.Need-past-origin-requires-2
+past-origin-requires-2 c κs = search needs
 
 returns-3 : tie.Need-returns-3
 returns-3 c =
@@ -86,7 +89,7 @@ returns-3 c =
 
 index-requires : tie.Need-index-requires
 index-requires c κs =
-    let i = c .before .before .before .offset .result in let j = c .before .offset2 .result in
+    let i = c .before .before .before .past-origin .result in let j = c .before .past-origin2 .result in
     let n = c .before .before .before .before .before .before .before .before .before .before .before .args .t1 .side in
     let h = not-false _ (c .if3 .left) in
     (ltb-true i n (and-left (ltb i n) (ltb j n) h), ltb-true j n (and-right (ltb i n) (ltb j n) h), small _ _ (sym (no-number (c .before .before .before .before .before .before .before .before))))
@@ -124,8 +127,12 @@ element-write-self-2 c = search needs
 returns-4 : tie.Need-returns-4
 returns-4 c =
     let d = c .before .before .before in let p = d .before in let b = p .before .before .before .before .before in let e = b .before .before in let a = e .before .before .before .args in
-    add-0 (a .t1) (a .x) (a .y) (a .t4) (no-number e) (finites b ∙ not-false _ (p .before .before .before .before .if2 .left)) (insides p ∙ not-false _ (d .if3 .left))
-    (c .before .before .index .ensures .0 ∙ cells (a .t1 .side) (column-is (p .before .before)) (row-is p))
+    let s = a .t1 in let o = getD (s .origin) 0 (pos 0) in let q = getD (s .origin) 1 (pos 0) in
+    let h = insides p ∙ not-false _ (d .if3 .left) in
+    add-0 s (a .x) (a .y) (a .t4) (no-number e) (finites b ∙ not-false _ (p .before .before .before .before .if2 .left)) h
+    (c .before .before .index .ensures .0
+    ∙ cells (s .side) (across-is (p .before .before) ∙ steps-are (a .x) o (s .side) (and-left (inSide (a .x) o (s .side)) (inSide (a .y) q (s .side)) h))
+    (down-is p ∙ steps-are (a .y) q (s .side) (and-right (inSide (a .x) o (s .side)) (inSide (a .y) q (s .side)) h)))
 
 pub add-spec : {M : Type 1} → statement M
 add-spec =
@@ -138,10 +145,10 @@ add-spec =
     array-read-is-finite32-2
     is-finite32-requires-2
     returns-2
-    array-copy-out-offset
-    offset-requires
-    array-copy-out-offset-2
-    offset-requires-2
+    array-copy-out-past-origin
+    past-origin-requires
+    array-copy-out-past-origin-2
+    past-origin-requires-2
     returns-3
     index-requires
     mul-self

@@ -4,7 +4,7 @@ use Prim.Native.Nat.{_*_, _≤_}
 use native.Mathlib.Omega.{arith}
 use lib.ListN.{length, length-map}
 use borrow.Author.Needs.{needs}
-use Rattle.support.specs.Ranges.{stateNumber}
+use Rattle.support.specs.Support.{stateNumber}
 use Rattle.support.proofs.Places.{few-cells, taken-long}
 use Rattle.support.proofs.Refusals.{small}
 use Rattle.gradients.proofs.Refusals.{covariance-state, covariance-0}

@@ -1,6 +1,7 @@
--- Zeros under the knots' number, or what they give at the width. Assumes nothing.
-use mathlib.Core.Path.{_≡_, sym, _∙_}
-use lib.Ieee.{ofBits}
+-- The knots' number, or what they give at the width. Assumes nothing.
+use mathlib.Core.Path.{_≡_, sym, ap, _∙_}
+use Rattle.model.specs.declared.At.the-variants.{Given}
+use Rattle.model.specs.declared.GainResidual.{GainResidual}
 use borrow.Author.Needs.{needs}
 use Rattle.model.specs.Knots.{knotsNumber}
 use Rattle.model.proofs.Refusals.{knots, at-refused, at-found}
@@ -17,14 +18,13 @@ knots-number-requires : tie.Need-knots-number-requires
 knots-number-requires c κs = search needs
 
 returns : tie.Need-returns
-unfolding ofBits
 returns c = at-refused _ _ _ (c .if1 .taken) (c .before .knots-number .ensures)
 
 at-knots-requires : tie.Need-at-knots-requires
 at-knots-requires c κs = knots _ (no-number (c .before .before .before))
 
 returns-2 : tie.Need-returns-2
-returns-2 c = c .at-knots .ensures ∙ at-found _ _ (no-number (c .before .before .before .before))
+returns-2 c = ap (λ (k : GainResidual). Given (k .gain) (k .residual)) (c .at-knots .ensures) ∙ at-found _ _ (no-number (c .before .before .before .before))
 
 pub at-spec : {M : Type 1} → statement M
 at-spec = tie.close (tie.spec knots-number-requires returns at-knots-requires returns-2)

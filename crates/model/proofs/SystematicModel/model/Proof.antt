@@ -5,11 +5,11 @@ use lib.Ieee.{ofBits}
 use borrow.Author.Tests.{not-true, not-false}
 use borrow.Author.Needs.{needs}
 use Rattle.refine.proofs.Refusing.{and}
-use Rattle.model.specs.declared.At.{At}
-use Rattle.model.specs.Knots.{knotsNumber, atOf}
+use Rattle.model.specs.declared.GainResidual.{GainResidual}
+use Rattle.model.specs.Knots.{knotsNumber}
 use Rattle.model.specs.Systematic.{systematic}
-use Rattle.model.specs.Model.{ranged, systematicAt}
-use Rattle.model.proofs.Refusals.{knots, at-found, model-knots, model-12, model-13, model-0}
+use Rattle.model.specs.Model.{estimateInRange, systematicAt}
+use Rattle.model.proofs.Refusals.{knots, model-knots, model-12, model-13, model-0}
 use Rattle.model.proofs.SystematicModel.model.Statement.{statement}
 use Rattle.model.proofs.SystematicModel.model.Tie as tie
 
@@ -23,16 +23,13 @@ taken c = c .before .before .before .before
 no-number : (c : tie.Else1) → 0 ≡ knotsNumber (start (c .before) .args .self)
 no-number c = sym (c .if1 .left) ∙ c .before .knots-number .ensures
 
-at : (c : tie.After-at-knots) → let a = start (taken c .before) .args in c .at-knots .result ≡ atOf (a .self) (a .width)
-at c = c .at-knots .ensures ∙ at-found _ _ (no-number (taken c))
-
 -- what the three tests of ranges say together
-ranges : (c : tie.After-up-to-thousand) → let a = start (taken (c .before .before .before) .before) .args in ranged (a .noise) (a .offset) (a .grid) ≡ (c .before .before .all-within .result && c .before .both-within .result) && c .up-to-thousand .result
+ranges : (c : tie.After-up-to-thousand) → let a = start (taken (c .before .before .before) .before) .args in estimateInRange (a .noise) (a .offset) (a .grid) ≡ (c .before .before .all-within .result && c .before .both-within .result) && c .up-to-thousand .result
 ranges c = and (and (sym (c .before .before .all-within .ensures)) (sym (c .before .both-within .ensures))) (sym (c .up-to-thousand .ensures))
 
--- the systematic part, at the answer of `at`
+-- the systematic part, at what the knots give
 part : (c : tie.After-systematic-of) → let a = start (taken (c .before .before .before .before .before) .before) .args in c .systematic-of .result ≡ systematicAt (a .self) (a .offset) (a .width) (a .grid)
-part c = let d = c .before .before .before .before .before in let a = start (taken d .before) .args in c .systematic-of .ensures ∙ ap (λ (r : At). systematic (r .gain) (r .residual) (a .self .floor) (a .offset) (a .grid)) (at d)
+part c = let d = c .before .before .before .before .before in let a = start (taken d .before) .args in c .systematic-of .ensures ∙ ap (λ (r : GainResidual). systematic (r .gain) (r .residual) (a .self .floor) (a .offset) (a .grid)) (d .at-knots .ensures)
 
 knots-number-requires : tie.Need-knots-number-requires
 knots-number-requires c κs = search needs

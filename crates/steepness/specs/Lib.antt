@@ -1,0 +1,3 @@
+pub mod Steepness
+pub mod Slide
+pub mod Examples
