@@ -1,4 +1,4 @@
--- What the loops over the bands keep, and the answer by its stages. Assumes noTotal.
+-- What the loops over the bands keep, and the answer by its stages. Assumes nothing.
 use mathlib.Core.Path.{_≡_, refl, sym, ap, _∙_}
 use mathlib.Core.Bool.{true, false}
 use mathlib.Core.List.{List, [], _∷_, _++_, append-assoc, append-nil}

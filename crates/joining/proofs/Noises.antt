@@ -1,4 +1,4 @@
--- What the loop of `noise_sigma` keeps, and the answer from the pass. Assumes noTotal.
+-- What the loop of `noise_sigma` keeps, and the answer from the pass. Assumes nothing.
 use mathlib.Core.Path.{_≡_, refl, sym, ap, _∙_, subst}
 use mathlib.Core.List.{List}
 use Prim.Native.Nat.{ℕ, zero, suc, _+_, _-_, _*_, _≤_, _<_}
@@ -24,7 +24,7 @@ use Rattle.joining.specs.declared.Sigma.{Sigma}
 use Rattle.joining.specs.declared.Sigma.the-variants.{Number}
 use Rattle.joining.specs.declared.Noise.{Noise}
 
--- ---- rounds and windowsIn fit
+-- ---- rounds and counts fit
 
 pub rounds-few : (g o : List Float) (starts : List ℕ) (image : Float) (b : ℕ) → bandRounds g o starts image b ≤ 12 * b
 rounds-few g o starts image zero = omega arith
@@ -80,7 +80,7 @@ module _ {g o : List Float} {starts : List ℕ} (image : Settled) (e : image ≡
         count = omega (arith, G .count, ap (λ (x : BandVariance). x .rounds) q, ap (bandRounds g o starts (image .var)) (add-one b));
       }
 
-  pub gathered-bands : 4 ≤ b → bands ≡ founds g o starts (image .var)
+  gathered-bands : 4 ≤ b → bands ≡ founds g o starts (image .var)
   gathered-bands h = tab-end (G .tab) h
 
   pub gathered-join : Bands g o starts → 4 ≤ b → (length bands ≡ 4) × (windowsIn bands ≤ length g)

@@ -1,4 +1,4 @@
--- Each of document 01's numbers is an exact inequality, and sigma is zero unless the number is 0. Assumes noTotal.
+-- Each of document 01's numbers is an exact inequality, and sigma is zero unless the number is 0. Assumes nothing.
 use mathlib.Core.Path.{_≡_, refl, sym, ap, _∙_, subst}
 use mathlib.Core.List.{List}
 use mathlib.Core.Logic.{_⊎_, inl, inr}

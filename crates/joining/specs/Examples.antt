@@ -60,7 +60,8 @@ unfolding joined outlierLimit median totalLess negative isNan larger lt le eq ad
 past-the-limit = refl
 
 -- the product is rounded, to 104 and to 103: a band at 104 joins, one at the f64 after 103 does not
-pub limit-rounded : (joined (beside (thirds 104) (f64Of 104)) .n ≡ 1100) × (joined (beside (thirds 103) (ofBits binary64 0x4059_C000_0000_0001)) .n ≡ 950)
+pub limit-rounded : (joined (beside (thirds 104) (f64Of 104)) .n ≡ 1100)
+    × (joined (beside (thirds 103) (ofBits binary64 0x4059_C000_0000_0001)) .n ≡ 950)
 unfolding joined outlierLimit median totalLess negative isNan larger lt le eq add mul ofBits ofInt round
 limit-rounded = (refl, refl)
 
@@ -82,8 +83,8 @@ pub one-level : deviation (total 512 204800) ≡ f64Of 1
 unfolding deviation sqrt convert div ofInt round
 one-level = refl
 
--- one band of n windows whose squared outputs sum to a number: each figure lies so near the middle of two f32 that another order of root and
--- quotients, or one rounding less or more, gives the other
+-- one band of n windows whose squared outputs sum to a number: each figure lies so near the middle of two f32 that another order
+-- of root and quotients, or one rounding less or more, gives the other
 abbrev oneBand : ℕ → ℕ → Float
 oneBand n sum = deviation (withBand noTotal n (next (total n sum)))
 
@@ -96,14 +97,16 @@ pub gain-divides : (oneBand 570 33063839 ≡ ofBits binary32 0x4140_C7AB) × (on
 unfolding deviation next sqrt convert add mul div ofBits ofInt round
 gain-divides = (refl, refl)
 
-pub weight-divides : (oneBand 1689 26734492 ≡ ofBits binary32 0x40C9_681B) × (oneBand 2622 145037895 ≡ ofBits binary32 0x413C_4158)
+pub weight-divides : (oneBand 1689 26734492 ≡ ofBits binary32 0x40C9_681B)
+    × (oneBand 2622 145037895 ≡ ofBits binary32 0x413C_4158)
 unfolding deviation next sqrt convert add mul div ofBits ofInt round
 weight-divides = (refl, refl)
 
 -- ---- the answer
 
 -- 511 windows joined are too few, 512 are not; no band with a variance is another matter
-pub numbers : (decided (total 511 0) ≡ Number 7) × (decided (total 512 0) ≡ Figure plusZero) × (sigmaOf (Missing ∷ Missing ∷ Missing ∷ Missing ∷ []) ≡ Number 6)
+pub numbers : (decided (total 511 0) ≡ Number 7) × (decided (total 512 0) ≡ Figure plusZero)
+    × (sigmaOf (Missing ∷ Missing ∷ Missing ∷ Missing ∷ []) ≡ Number 6)
 unfolding decided deviation sigmaOf sqrt convert div ofInt round
 numbers = (refl, refl, refl)
 
@@ -119,7 +122,8 @@ unfolding noise
 few = refl
 
 -- after three rounds for the image, one for a band of 128 windows and none for an empty band
-pub four-rounds : noiseUnder (zeros 128) (zeros 128) (inBand0 128) (settledAt 128 (f64Of 0) 3) ≡ record { sigma = Number 7; rounds = 4 }
+pub four-rounds : noiseUnder (zeros 128) (zeros 128) (inBand0 128) (settledAt 128 (f64Of 0) 3)
+    ≡ record { sigma = Number 7; rounds = 4 }
 unfolding noiseUnder sigmaOf decided joined outlierLimit median bandVariance judged settle maxRounds oneRound next near start quiet meanQuiet mean
     threshold cut convert totalLess negative isNan larger magnitude sub neg add mul div lt le eq ofInt round
 four-rounds = refl

@@ -34,7 +34,7 @@ abbrev pub variances : List Found → List Float
 variances [] = []
 variances (f ∷ bands) = varianceOf f ++ variances bands
 
--- of m numbers in rising order the medianIn one, or half the sum of the medianIn two
+-- of m numbers in rising order the middle one, or half the sum of the middle two
 abbrev pub medianIn : List Float → ℕ → Float
 medianIn l m = cond (eqb (m % 2) 1) (at l (m / 2)) (mul binary64 half (add binary64 (at l (m / 2 - 1)) (at l (m / 2))))
 
@@ -69,7 +69,7 @@ joined bands = joinFrom (outlierLimit (median (variances bands))) noTotal bands
 abbrev pub minSamples : ℕ
 minSamples = 512
 
--- the root of the mean variance, over the operator's operatorGain, rounded to f32
+-- the root of the mean variance, over the operator's gain, rounded to f32
 unfoldable pub deviation : Total → Float
 deviation k = convert binary32 (div binary64 (sqrt binary64 (div binary64 (k .sum) (f64Of (k .n)))) operatorGain)
 
@@ -97,7 +97,8 @@ noiseUnder g o starts image =
     record { sigma = sigmaOf (founds g o starts (image .var)); rounds = image .rounds + bandRounds g o starts (image .var) 4 }
 
 unfoldable pub noise : List Float → List Float → List ℕ → Noise
-noise g o starts = cond (ltb (length g) minSamples) (record { sigma = Number 5; rounds = 0 }) (noiseUnder g o starts (imageVariance g o starts))
+noise g o starts =
+    cond (ltb (length g) minSamples) (record { sigma = Number 5; rounds = 0 }) (noiseUnder g o starts (imageVariance g o starts))
 
 -- ---- document 01's number, and its sigma: zero unless the number is 0
 

@@ -31,7 +31,8 @@ pub struct Noise {
     pub rounds: usize,
 }
 
-// The noise of a pass from the gates and the squared outputs of its windows. Band b is the windows from starts[b] to starts[b + 1].
+// The noise of a pass from the gates and the squared outputs of its windows. Band b is the windows from starts[b] to
+// starts[b + 1].
 pub fn noise_sigma(gate: &[f32], op: &[f32], starts: &[usize; 5]) -> Noise
     requires { ⌜ Bands (now gate) (now op) (now starts) ⌝ }
     ensures { λ r. ⌜ r ≡ noise (now (gate .entry)) (now (op .entry)) (now (starts .entry)) ⌝ }
@@ -43,14 +44,13 @@ pub fn noise_sigma(gate: &[f32], op: &[f32], starts: &[usize; 5]) -> Noise
         };
     }
     let image = rounds::image_variance(gate, op, starts);
-    let image_var = image.var;
     let mut bands = [Found::Missing; 4];
     let mut rounds = image.rounds;
     let mut b: usize = 0;
     while b < rounds::BANDS {
         let a = starts[b];
         let e = starts[b + 1];
-        let v = band_variance(gate, op, a, e, image_var);
+        let v = band_variance(gate, op, a, e, image.var);
         let f = v.found;
         bands[b] = f;
         rounds = rounds + v.rounds;
@@ -108,7 +108,8 @@ fn collect(bands: [Found; 4], vars: &mut [f64; 4]) -> usize
 // A band's variance, where it has one, goes to place n of vars. The answer is the next place.
 fn push(vars: &mut [f64; 4], n: usize, f: Found) -> usize
     requires { ⌜ (n < 4) × (length (now vars) ≡ 4) ⌝ }
-    ensures { λ r. ⌜ (take r (now (vars .exit)) ≡ take n (now (vars .entry)) ++ varianceOf f) × (r ≤ n + 1) × (length (now (vars .exit)) ≡ 4) ⌝ }
+    ensures { λ r. ⌜ (take r (now (vars .exit)) ≡ take n (now (vars .entry)) ++ varianceOf f) × (r ≤ n + 1)
+        × (length (now (vars .exit)) ≡ 4) ⌝ }
 {
     match f {
         Found::Variance(_, v) => {

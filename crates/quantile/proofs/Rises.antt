@@ -117,7 +117,7 @@ length-inserted v (x ∷ l) = go (totalLess v x) (length-inserted v l)
     go true h = refl
     go false h = ap suc h
 
-pub length-rising : (f : ℕ → Float) (n : ℕ) → length (rising f n) ≡ n
+length-rising : (f : ℕ → Float) (n : ℕ) → length (rising f n) ≡ n
 length-rising f zero = refl
 length-rising f (suc n) = length-inserted (f n) (rising f n) ∙ ap suc (length-rising f n)
 

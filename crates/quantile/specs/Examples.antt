@@ -21,10 +21,12 @@ unfolding totalLess negative lt eq isNan neg round
 in-order = refl
 
 -- 255 gates are all taken, of 256 every other one, of 16,000 every 63rd
-pub strides : (stride 0 ≡ 1) × (stride 1 ≡ 1) × (stride 255 ≡ 1) × (stride 256 ≡ 2) × (stride 510 ≡ 2) × (stride 511 ≡ 3) × (stride 16000 ≡ 63)
+pub strides : (stride 0 ≡ 1) × (stride 1 ≡ 1) × (stride 255 ≡ 1) × (stride 256 ≡ 2)
+    × (stride 510 ≡ 2) × (stride 511 ≡ 3) × (stride 16000 ≡ 63)
 strides = (refl, refl, refl, refl, refl, refl, refl)
 
-pub counts : (taken 0 ≡ 0) × (taken 1 ≡ 1) × (taken 255 ≡ 255) × (taken 256 ≡ 128) × (taken 510 ≡ 255) × (taken 511 ≡ 171) × (taken 16000 ≡ 254)
+pub counts : (taken 0 ≡ 0) × (taken 1 ≡ 1) × (taken 255 ≡ 255) × (taken 256 ≡ 128)
+    × (taken 510 ≡ 255) × (taken 511 ≡ 171) × (taken 16000 ≡ 254)
 counts = (refl, refl, refl, refl, refl, refl, refl)
 
 -- the least of 15 gates, and the second of 16: the place counts from 0

@@ -78,7 +78,7 @@ length-part l a e h = length-take (e - a) (drop a l) ∙ go (length (drop a l)) 
     go : (x : ℕ) → x ≡ length l - a → min (e - a) x ≡ e - a
     go x p = omega arith
 
-pub part-few : (g o : List Float) (a e : ℕ) (var : Float) → e ≤ length g → bandTotal (part g a e) (part o a e) var .n ≤ e - a
+part-few : (g o : List Float) (a e : ℕ) (var : Float) → e ≤ length g → bandTotal (part g a e) (part o a e) var .n ≤ e - a
 part-few g o a e var h = omega (arith, admitted-few (part g a e) (part o a e) var var, length-part g a e h)
 
 module _ {g o : List Float} {starts : List ℕ} (B : Bands g o starts) where
@@ -93,7 +93,7 @@ module _ {g o : List Float} {starts : List ℕ} (B : Bands g o starts) where
   pub within : (b : ℕ) → b ≤ 4 → getD starts b 0 ≤ length g
   within b h = within-from (4 - b) b (omega arith)
 
-  pub bands-few : (var : Float) (b : ℕ) → b ≤ 4 → bandsTotal g o starts var b .n ≤ getD starts b 0
+  bands-few : (var : Float) (b : ℕ) → b ≤ 4 → bandsTotal g o starts var b .n ≤ getD starts b 0
   bands-few var zero h = omega arith
   bands-few var (suc b) h =
       omega (

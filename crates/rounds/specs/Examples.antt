@@ -12,7 +12,8 @@ use Rattle.quantile.specs.Quantile.{quiet}
 use Rattle.sums.specs.Admitted.{totalOf, threshold, cut}
 use Rattle.sums.specs.Start.{mean, meanQuiet, start}
 use Rattle.sums.specs.declared.Total.{Total}
-use Rattle.rounds.specs.Rounds.{next, near, settledAt, roundOf, oneRound, maxRounds, settle, judged, bandVariance, imageTotal, imageVariance}
+use Rattle.rounds.specs.Rounds.{next, near, settledAt, roundOf, oneRound, maxRounds, settle, judged}
+use Rattle.rounds.specs.Rounds.{bandVariance, imageTotal, imageVariance}
 use Rattle.rounds.specs.declared.Found.the-variants.{Variance, Missing}
 use Rattle.rounds.specs.declared.BandVariance.{BandVariance}
 
@@ -35,14 +36,16 @@ pub nearness : (near 5 5 (f64Of 1002) (f64Of 1000) ≡ true) × (near 5 4 (f64Of
 unfolding near sub add neg mul lt le eq magnitude ofInt round
 nearness = (refl, refl, refl, refl, refl, refl, refl)
 
--- 0.001 times the one before is rounded: 7,999,999,999,999.999 down, so that 8 · 10^12 is more, and 8,799,999,999,999.999 up to the move
+-- 0.001 times the one before is rounded: 7,999,999,999,999.999 stays below a move of 8 · 10^12, and 8,799,999,999,999.999 goes up
+-- to one of 8.8 · 10^12
 pub product-rounded : (near 5 4 (f64Of 8007999999999999) (f64Of 7999999999999999) ≡ false)
     × (near 5 4 (f64Of 8808799999999999) (f64Of 8799999999999999) ≡ true)
 unfolding near sub add neg mul lt le eq magnitude ofInt round
 product-rounded = (refl, refl)
 
 -- the variance of a round that settles is the new one: 998,929 over 500 windows yields 2,000, which is near 1,999
-pub new-one : oneRound (total 500 998929) (settledAt 7 (f64Of 1999) 3) ≡ roundOf (settledAt 500 (ofBits binary64 0x409F_4000_0000_0000) 4) true
+pub new-one : oneRound (total 500 998929) (settledAt 7 (f64Of 1999) 3)
+    ≡ roundOf (settledAt 500 (ofBits binary64 0x409F_4000_0000_0000) 4) true
 unfolding oneRound next near sub add neg mul div lt le eq magnitude ofBits ofInt round
 new-one = refl
 
@@ -108,14 +111,17 @@ enough-windows = refl
 abbrev quiet-gates : List Float
 quiet-gates = f64Of 0 ∷ f64Of 0 ∷ f64Of 0 ∷ f64Of 0 ∷ []
 
-pub four-bands : imageTotal quiet-gates (f64Of 16777216 ∷ f64Of 1 ∷ f64Of 1 ∷ f64Of 1 ∷ []) (0 ∷ 1 ∷ 2 ∷ 3 ∷ 4 ∷ []) (f64Of 1048576)
-    ≡ totalOf 4 (f64Of 16777219)
+abbrev squares : List Float
+squares = f64Of 16777216 ∷ f64Of 1 ∷ f64Of 1 ∷ f64Of 1 ∷ []
+
+pub four-bands : imageTotal quiet-gates squares (0 ∷ 1 ∷ 2 ∷ 3 ∷ 4 ∷ []) (f64Of 1048576) ≡ totalOf 4 (f64Of 16777219)
 unfolding imageTotal threshold cut convert larger mul add lt le eq ofInt round
 four-bands = refl
 
--- the start is that of all gates, of which the quietest is in band 1: 0, which admits only its own window. Band 0's own start, 3,600, would
--- admit both
-pub start-of-all : imageVariance (f64Of 5 ∷ f64Of 0 ∷ []) (f64Of 3600 ∷ f64Of 0 ∷ []) (0 ∷ 1 ∷ 2 ∷ 2 ∷ 2 ∷ []) ≡ settledAt 1 (f64Of 0) 1
+-- the start is that of all gates, of which the quietest is in band 1: 0, which admits only its own window. Band 0's own start,
+-- 3,600, would admit both
+pub start-of-all : imageVariance (f64Of 5 ∷ f64Of 0 ∷ []) (f64Of 3600 ∷ f64Of 0 ∷ []) (0 ∷ 1 ∷ 2 ∷ 2 ∷ 2 ∷ [])
+    ≡ settledAt 1 (f64Of 0) 1
 unfolding imageVariance imageTotal settle maxRounds oneRound next near start quiet meanQuiet mean threshold cut convert totalLess negative isNan larger
     magnitude sub neg add mul div lt le eq ofInt round
 start-of-all = refl

@@ -44,7 +44,8 @@ oneRound k s =
 -- at most `left` rounds more, after those that ended at s
 abbrev pub roundsFrom : (Float → Total) → ℕ → Settled → Settled
 roundsFrom f zero s = s
-roundsFrom f (suc left) s = cond (oneRound (f (s .var)) s .last) (oneRound (f (s .var)) s .settled) (roundsFrom f left (oneRound (f (s .var)) s .settled))
+roundsFrom f (suc left) s =
+    cond (oneRound (f (s .var)) s .last) (oneRound (f (s .var)) s .settled) (roundsFrom f left (oneRound (f (s .var)) s .settled))
 
 -- ROUNDS
 unfoldable pub maxRounds : ℕ
@@ -69,7 +70,8 @@ minBandSamples = 128
 -- a variance counts where it rests on 128 windows and is not above 8 times the image's
 unfoldable pub judged : Settled → Float → Found
 judged s image =
-    cond (leb minBandSamples (s .n) && not (lt (mul binary64 maxBandRatio (larger image roundingOpVar)) (s .var))) (Variance (s .n) (s .var)) Missing
+    cond (leb minBandSamples (s .n) && not (lt (mul binary64 maxBandRatio (larger image roundingOpVar)) (s .var)))
+    (Variance (s .n) (s .var)) Missing
 
 abbrev pub bandBy : Settled → Float → BandVariance
 bandBy s image = record { found = judged s image; rounds = s .rounds }
@@ -77,7 +79,8 @@ bandBy s image = record { found = judged s image; rounds = s .rounds }
 -- a band under 128 windows has no variance and no rounds
 unfoldable pub bandVariance : List Float → List Float → Float → BandVariance
 bandVariance g o image =
-    cond (ltb (length g) minBandSamples) (record { found = Missing; rounds = 0 }) (bandBy (settle (bandTotal g o) (start g o)) image)
+    cond (ltb (length g) minBandSamples) (record { found = Missing; rounds = 0 })
+    (bandBy (settle (bandTotal g o) (start g o)) image)
 
 -- ---- the image: four bands one after the other, band b from start b to start (b + 1)
 

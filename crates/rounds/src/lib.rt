@@ -72,7 +72,8 @@ fn start(gate: &[f32], op: &[f32]) -> f64
     sums::mean_quiet(op, gate, quantile::quantile(gate))
 }
 
-// The rounds of a band. There are no closures, so this loop stands once more, over what the image admits; the round itself is `one_round`.
+// The rounds of a band. There are no closures, so the loop stands once more in `image_variance`, over what the image admits; the
+// round itself is `one_round`, for both.
 fn settle(gate: &[f32], op: &[f32], start: f64) -> Settled
     requires { ⌜ length (now gate) ≡ length (now op) ⌝ }
     ensures { λ r. ⌜ r ≡ Rounds.settle (bandTotal (now (gate .entry)) (now (op .entry))) start ⌝ }
@@ -156,7 +157,8 @@ fn judge(s: Settled, image_var: f64) -> Found
     Found::Variance(s.n, s.var)
 }
 
-// The variance of the whole image: the fixed point where the gate it sets yields it. Band b is the windows from starts[b] to starts[b + 1].
+// The variance of the whole image: the fixed point where the gate it sets yields it. Band b is the windows from starts[b] to
+// starts[b + 1].
 pub fn image_variance(gate: &[f32], op: &[f32], starts: &[usize; 5]) -> Settled
     requires { ⌜ Bands (now gate) (now op) (now starts) ⌝ }
     ensures { λ r. ⌜ r ≡ imageVariance (now (gate .entry)) (now (op .entry)) (now (starts .entry)) ⌝ }

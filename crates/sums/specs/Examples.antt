@@ -21,7 +21,7 @@ pub least-variance : (threshold (f64Of 0) ≡ ofBits binary32 0x4426_AAAB) × (c
 unfolding threshold cut convert mul larger lt eq ofBits ofInt round
 least-variance = (refl, refl)
 
--- 17,000,941 / 80 times 20 is an f64 half-way between two f32, so two roundings and one part; and 19,694,087 / 32 times 16 is another
+-- 17,000,941 / 80 times 20 is, once rounded, half-way between two f32, and goes to the even one; so does 19,694,087 / 32 times 16
 pub half-way : (threshold (round binary64 false 17000941 80) ≡ ofBits binary32 0x4A81_B4F6)
     × (cut (round binary64 false 19694087 32) ≡ ofBits binary32 0x4B16_4104)
 unfolding threshold cut convert mul larger lt eq ofBits ofInt round
@@ -35,14 +35,15 @@ unfolding threshold cut convert mul larger lt le eq ofInt round
 on-both = (refl, refl, refl)
 
 -- the first variance is the gate's, the second the output's
-pub each-its-own : admittedAt (f64Of 1999 ∷ f64Of 3999 ∷ []) (f64Of 3200 ∷ f64Of 1 ∷ []) (f64Of 100) (f64Of 200) ≡ totalOf 1 (f64Of 3200)
+pub each-its-own : admittedAt (f64Of 1999 ∷ f64Of 3999 ∷ []) (f64Of 3200 ∷ f64Of 1 ∷ []) (f64Of 100) (f64Of 200)
+    ≡ totalOf 1 (f64Of 3200)
 unfolding threshold cut convert mul larger lt le eq add ofInt round
 each-its-own = refl
 
 -- ---- blocks
 
--- 16,777,216 and 256 ones, of which the first is not admitted: in f32 the 254 ones after 16,777,216 are lost with their block, and the
--- one of the second block is not, in f64
+-- 16,777,216 and 256 ones, of which the first is not admitted: the 254 ones of the first block are lost in f32, the one of the
+-- second is not, in f64
 abbrev gates : List Float
 gates = from (λ (k : ℕ). cond (eqb k 1) (f64Of 20971520) (f64Of 0)) 0 257
 
@@ -70,6 +71,7 @@ unfolding start quiet meanQuiet mean totalLess negative isNan lt le eq add div o
 first-mean = refl
 
 -- summed in f64 and divided by the count: 16,777,216, 1 and 0
-pub mean-of-three : meanQuiet (f64Of 16777216 ∷ f64Of 1 ∷ f64Of 0 ∷ []) (f64Of 0 ∷ f64Of 0 ∷ f64Of 0 ∷ []) (f64Of 0) ≡ ofBits binary64 0x4155_5555_6AAA_AAAB
+pub mean-of-three : meanQuiet (f64Of 16777216 ∷ f64Of 1 ∷ f64Of 0 ∷ []) (f64Of 0 ∷ f64Of 0 ∷ f64Of 0 ∷ []) (f64Of 0)
+    ≡ ofBits binary64 0x4155_5555_6AAA_AAAB
 unfolding meanQuiet mean lt le eq add div ofBits ofInt round
 mean-of-three = refl

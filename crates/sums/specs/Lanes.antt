@@ -1,4 +1,5 @@
--- What only the code's loops over eight blocks side by side need; no definition uses it. Lane l has the block from window a + 256 l on.
+-- What only the code's loops over eight blocks side by side need; no definition uses it. Lane l has the block from
+-- window a + 256 l on.
 use mathlib.Core.Path.{_≡_}
 use mathlib.Core.List.{List}
 use Prim.Native.Nat.{ℕ, zero, suc, _+_, _*_, _≤_, _<_}

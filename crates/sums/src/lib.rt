@@ -1,5 +1,5 @@
-// Sums over a band's windows: noise.rs, `Band::admitted` and `mean_quiet`. A band is two parts of the one f32 slice, as long as each
-// other: the gates of its windows and their squared outputs.
+// Sums over a band's windows: noise.rs, `Band::admitted` and `mean_quiet`. A band is two parts of the one f32 slice, equally
+// long: the gates of its windows and their squared outputs.
 ghost use mathlib.Core.Path.{_≡_};
 ghost use mathlib.Core.Bool.{cond};
 ghost use Prim.Native.Nat.{ℕ, _+_, _-_, _*_, _≤_, _<_, min};

@@ -1,4 +1,4 @@
--- `add_band` meets its contract, by the cases of the band's answer and the test. Assumes noTotal.
+-- `add_band` meets its contract, by the cases of the band's answer and the test. Assumes nothing.
 use native.Mathlib.Omega.{arith}
 use borrow.Author.Needs.{needs}
 use Rattle.joining.proofs.Joins.{band-in, band-out, count-is}

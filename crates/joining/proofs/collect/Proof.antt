@@ -1,4 +1,4 @@
--- `collect` meets its contract. The variances stored, and then those of the bands left, are all of them. Assumes noTotal.
+-- `collect` meets its contract. The variances stored, and then those of the bands left, are all of them. Assumes nothing.
 use Prim.Native.Nat.{_-_}
 use native.Mathlib.Omega.{arith}
 use Rattle.joining.proofs.Joins.{Collected, collected-start, collected-more, collected-end}

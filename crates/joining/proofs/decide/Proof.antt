@@ -1,4 +1,4 @@
--- `decide` meets its contract, by the test. Assumes noTotal.
+-- `decide` meets its contract, by the test. Assumes nothing.
 use borrow.Author.Needs.{needs}
 use Rattle.joining.proofs.Joins.{decided-thin, decided-is}
 use Rattle.joining.proofs.decide.Statement.{statement}

@@ -1,4 +1,4 @@
--- `deviation` meets its contract: it is its definition, operation by operation. Assumes noTotal.
+-- `deviation` meets its contract: it is its definition, operation by operation. Assumes nothing.
 use mathlib.Core.Path.{_≡_, _∙_, ap}
 use lib.Ieee.{Float, binary32, binary64, div, ofBits, ofInt, round}
 use borrow.Author.Needs.{needs}
@@ -9,7 +9,7 @@ use Rattle.joining.specs.Joining.{deviation}
 use Rattle.joining.proofs.deviation.Statement.{statement}
 use Rattle.joining.proofs.deviation.Tie as tie
 
--- the root over the operatorGain, rounded
+-- the root over the gain, rounded
 rounded : {x y r : Float} → r ≡ convert binary32 (div binary64 x operatorGain) → x ≡ y → r ≡ convert binary32 (div binary64 y operatorGain)
 rounded e f = e ∙ ap (λ (z : Float). convert binary32 (div binary64 z operatorGain)) f
 

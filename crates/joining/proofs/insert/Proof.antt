@@ -1,4 +1,4 @@
--- `insert` meets its contract. The numbers above v move up one by one from the last place on, and v takes the place that they leave. Assumes noTotal.
+-- `insert` meets its contract. The numbers above v move up one by one from the last place on, and v takes the place that they leave. Assumes nothing.
 use mathlib.Core.Path.{refl, sym, _∙_}
 use native.Mathlib.Omega.{arith}
 use denote.Ref.{now}

@@ -1,4 +1,4 @@
--- `join` meets its contract, stage by stage. Assumes noTotal.
+-- `join` meets its contract, stage by stage. Assumes nothing.
 use borrow.Author.Needs.{needs}
 use Rattle.joining.proofs.Joins.{sigma-none, sigma-is}
 use Rattle.joining.proofs.join.Statement.{statement}

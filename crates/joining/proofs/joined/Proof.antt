@@ -1,4 +1,4 @@
--- `joined` meets its contract. The total so far, and then the bands left, make the f64Of total. Assumes noTotal.
+-- `joined` meets its contract. The total so far, and then the bands left, make the whole total. Assumes nothing.
 use Prim.Native.Nat.{_-_}
 use native.Mathlib.Omega.{arith}
 use lib.Ieee.{ofBits}

@@ -1,4 +1,4 @@
--- `median` meets its contract: the first n in rising order stand in the sorted array. Assumes noTotal.
+-- `median` meets its contract: the first n in rising order stand in the sorted array. Assumes nothing.
 use lib.Ieee.{ofBits, round}
 use borrow.Author.Needs.{needs}
 use denote.Ref.{now}

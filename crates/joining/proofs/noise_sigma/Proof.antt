@@ -1,4 +1,4 @@
--- `noise_sigma` meets its contract. After b bands the first b answers stand in the array, and the rounds are the image's and theirs. Assumes noTotal.
+-- `noise_sigma` meets its contract. After b bands the first b answers stand in the array, and the rounds are the image's and theirs. Assumes nothing.
 use mathlib.Core.Path.{refl}
 use Prim.Native.Nat.{_+_, _-_}
 use native.Mathlib.Omega.{arith}
@@ -9,10 +9,10 @@ use Rattle.joining.proofs.noise_sigma.Statement.{statement}
 use Rattle.joining.proofs.noise_sigma.Tie as tie
 
 abbrev Inv-loop : tie.InvT-loop
-Inv-loop gate op starts image-var bands₀ rounds₀ b₀ bands rounds b = Gathered gate op starts image-var rounds₀ bands rounds b
+Inv-loop gate op starts image bands₀ rounds₀ b₀ bands rounds b = Gathered gate op starts (image .var) (image .rounds) bands rounds b
 
 abbrev μ-loop : tie.MeasureT-loop
-μ-loop gate op starts image-var bands₀ rounds₀ b₀ bands rounds b = 4 - b
+μ-loop gate op starts image bands₀ rounds₀ b₀ bands rounds b = 4 - b
 
 returns : tie.Need-returns Inv-loop μ-loop
 returns c =

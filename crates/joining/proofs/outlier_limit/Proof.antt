@@ -1,4 +1,4 @@
--- `outlier_limit` meets its contract: it is its definition, operation by operation. Assumes noTotal.
+-- `outlier_limit` meets its contract: it is its definition, operation by operation. Assumes nothing.
 use mathlib.Core.Path.{ap}
 use lib.Ieee.{binary64, mul, ofBits, ofInt, round}
 use borrow.Author.Needs.{needs}

@@ -1,4 +1,4 @@
--- `push` meets its contract, by the cases of the band's answer. Assumes noTotal.
+-- `push` meets its contract, by the cases of the band's answer. Assumes nothing.
 use mathlib.Core.Path.{_∙_}
 use native.Mathlib.Omega.{arith}
 use borrow.Author.Needs.{needs}

@@ -1,4 +1,4 @@
--- `sort` meets its contract. The four numbers held are those passed, in rising order, and no numbers after them. Assumes noTotal.
+-- `sort` meets its contract. The four numbers held are those passed, in rising order, and no numbers after them. Assumes nothing.
 use mathlib.Core.Path.{refl}
 use Prim.Native.Nat.{_-_}
 use native.Mathlib.Omega.{arith}
