@@ -146,15 +146,15 @@ fn topics() -> Vec<String> {
     text.split("Topic { name: \"").skip(1).filter_map(|rest| rest.split('"').next()).map(str::to_string).collect()
 }
 
-/// The place that a part of a cell names: `crate`, `crate File`, `File`, files parted by commas, a colon after them. Files are in the
-/// folder given, or in specs where that word stands before them.
-fn place<'a>(head: &'a str, folder: &'a str, crates: &[String]) -> Option<(Option<&'a str>, &'a str, Vec<&'a str>)> {
+/// The place that a part of a cell names: `crate`, `crate File`, `File`, files parted by commas, a colon after them, and
+/// `specs` before them, which is for people.
+fn place<'a>(head: &'a str, crates: &[String]) -> Option<(Option<&'a str>, Vec<&'a str>)> {
     let words: Vec<&str> = head.trim_end_matches(':').split([' ', ',']).filter(|word| !word.is_empty()).collect();
     let named = words.first().copied().filter(|word| *word == "kit" || crates.iter().any(|name| name == word));
     let mut files = words[usize::from(named.is_some())..].to_vec();
-    let folder = if files.first() == Some(&"specs") { files.remove(0) } else { folder };
+    files.retain(|word| *word != "specs");
     let fits = files.iter().all(|file| file.starts_with(char::is_uppercase) && file.chars().all(char::is_alphanumeric));
-    fits.then_some((named, folder, files))
+    fits.then_some((named, files))
 }
 
 fn row(ledger: &mut Ledger, at: usize, line: &str, crates: &[String], topics: &[String]) {
@@ -169,7 +169,7 @@ fn row(ledger: &mut Ledger, at: usize, line: &str, crates: &[String], topics: &[
         let mut files: Vec<String> = vec![];
         for part in plain(cell).split(';').map(str::trim).filter(|part| !part.is_empty()) {
             let (head, names) = marked(part);
-            let Some((named, folder, found)) = place(&head, folder, crates) else {
+            let Some((named, found)) = place(&head, crates) else {
                 if kind != "edit" || names.iter().any(|name| !name.contains('/') || !Path::new(name).exists()) {
                     ledger.fault(at, &format!("{kind}: {head:?} names no place"));
                 }
@@ -187,7 +187,10 @@ fn row(ledger: &mut Ledger, at: usize, line: &str, crates: &[String], topics: &[
                 ledger.fault(at, &format!("{kind}: {part:?} names no crate"));
                 continue;
             }
-            let paths: Vec<String> = files.iter().map(|file| format!("crates/{owner}/{folder}/{file}.antt")).collect();
+            // A law stands in proofs; worked examples may stand beside the definitions.
+            let path = |folder: &str, file: &String| format!("crates/{owner}/{folder}/{file}.antt");
+            let beside = |file: &String| kind != "definition" && !Path::new(&path(folder, file)).is_file();
+            let paths: Vec<String> = files.iter().map(|file| path(if beside(file) { "specs" } else { folder }, file)).collect();
             if kind != "edit" {
                 for path in paths.iter().filter(|path| !Path::new(path).is_file()) {
                     ledger.fault(at, &format!("{kind}: there is no {path}"));
@@ -207,7 +210,7 @@ fn row(ledger: &mut Ledger, at: usize, line: &str, crates: &[String], topics: &[
                     if kind == "definition" || !found.is_some_and(|f| f.ensures) {
                         ledger.fault(at, &format!("{kind} `{name}`: no function with that contract in crates/{owner}/src"));
                     }
-                } else if !paths.iter().any(|path| defines(&read(path).unwrap_or_default(), &name, true)) {
+                } else if !paths.iter().any(|path| defines(&read(path).unwrap_or_default(), &name, kind == "definition")) {
                     ledger.fault(at, &format!("{kind} `{name}`: not in {}", paths.join(", ")));
                 }
             }
@@ -261,7 +264,8 @@ fn dependencies(ledger: &mut Ledger) {
         let Some((name, rest)) = line.split('#').next().unwrap_or("").split_once(':') else { continue };
         let code = sources(&format!("crates/{name}/src"), ".rt");
         let logic = sources(&format!("crates/{name}/specs"), ".antt") + &sources(&format!("crates/{name}/proofs"), ".antt");
-        for other in rest.split_whitespace() {
+        // io stands on libc, and both are listed where io is used
+        for other in rest.split_whitespace().filter(|other| *other != "libc") {
             let word = |text: &str, mark: &str| {
                 text.match_indices(mark).any(|(at, _)| !text[..at].ends_with(|c: char| c.is_alphanumeric() || c == '_' || c == ':'))
             };

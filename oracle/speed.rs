@@ -13,7 +13,7 @@ pub fn heading() {
 }
 
 /// A line of the table. In a turn all inputs are run one after the other; ours and the original's take turns, each going first
-/// as often as the other. `mark` is the ratio that is aimed at, if any.
+/// as often as the other. `mark` is the ratio of medians that is aimed at, if any.
 pub fn beside<A, R>(what: &str, mark: Option<f64>, inputs: &[A], ours: impl Fn(&A) -> R, theirs: impl Fn(&A) -> R) {
     let sides: [&dyn Fn() -> f64; 2] = [&timed(inputs, ours), &timed(inputs, theirs)];
     let mut turns = [vec![], vec![]];
@@ -25,8 +25,8 @@ pub fn beside<A, R>(what: &str, mark: Option<f64>, inputs: &[A], ours: impl Fn(&
         times.sort_by(f64::total_cmp);
         (times[0], times[TURNS / 2])
     });
-    let mark = mark.map_or("none".to_string(), |mark| format!("{mark:.2}"));
     let (medians, minima) = (ours.1 / theirs.1, ours.0 / theirs.0);
+    let mark = mark.map_or("none".to_string(), |mark| format!("{mark:.2}{}", if medians > mark { ", missed" } else { "" }));
     println!("| {what} | {} | {} | {medians:.2} | {minima:.2} | {mark} |", shown(ours.1), shown(theirs.1));
 }
 
