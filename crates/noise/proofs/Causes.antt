@@ -105,17 +105,17 @@ module _ (n w h : ℕ) where
 -- ---- the memory
 
 module _ (w h ints floats m : ℕ) (is : m ≡ neededOf w h) where
-  pub short-ints : ints < 3 * m → shortOf w h ints floats ≡ true
+  short-ints : ints < 3 * m → shortOf w h ints floats ≡ true
   short-ints p = rw (← is, lt-ltb ints (3 * m) p)
 
-  pub short-floats : 3 * m ≤ ints → floats < 2 * m + 2 → shortOf w h ints floats ≡ true
+  short-floats : 3 * m ≤ ints → floats < 2 * m + 2 → shortOf w h ints floats ≡ true
   short-floats p q = rw (← is, le-ltb ints (3 * m) p, lt-ltb floats (2 * m + 2) q)
 
   pub enough : 3 * m ≤ ints → 2 * m + 2 ≤ floats → shortOf w h ints floats ≡ false
   enough p q = rw (← is, le-ltb ints (3 * m) p, le-ltb floats (2 * m + 2) q)
 
 -- M is small
-pub needed-most : (w h : ℕ) → Sides w h → neededOf w h ≤ 268435456
+needed-most : (w h : ℕ) → Sides w h → neededOf w h ≤ 268435456
 needed-most w h s = no-more w h 268435456 (le-trans (total-most w h firstW (omega arith)) (few w h s)) (λ _. le-trans (total-most w h secondW (omega arith)) (few w h s))
 
 -- ---- a call that is not refused

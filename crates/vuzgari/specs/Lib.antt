@@ -1,3 +1,4 @@
 pub mod Codes
 pub mod Noise
 pub mod Demand1
+pub mod Examples

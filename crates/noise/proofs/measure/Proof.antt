@@ -1,4 +1,5 @@
 -- `measure` meets its contract: what lies beyond the cleared front no pass has changed.
+use native.Mathlib.Omega.{arith}
 use Rattle.noise.proofs.Passing.{cleared-ints, cleared-floats}
 use borrow.Author.Needs.{needs}
 use Rattle.noise.proofs.measure.Statement.{statement}
@@ -20,7 +21,7 @@ add-clear-floats : tie.Need-add-clear-floats
 add-clear-floats c = search needs
 
 clear-floats-requires : tie.Need-clear-floats-requires
-clear-floats-requires c κs = search needs
+clear-floats-requires c κs = omega arith
 
 same-length : tie.Need-same-length
 same-length c = search needs
