@@ -58,7 +58,7 @@ impl Image {
     }
 }
 
-/// The twins of a kind, or of all kinds but it.
+/// The twins of a kind.
 pub fn twins(kind: &str) -> impl Iterator<Item = Twin> + '_ {
     let lines = LIST.lines().filter(|line| !line.is_empty() && !line.starts_with('#'));
     lines.filter(move |line| line.split(' ').next() == Some(kind)).map(Twin::read)

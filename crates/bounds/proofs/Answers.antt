@@ -15,7 +15,7 @@ use lib.Ieee.Fits.{down-pos}
 use Rattle.laws.specs.Lists.{Each}
 use Rattle.laws.proofs.Choice.{cond-both}
 use Rattle.ieee.proofs.Naturals.{le-or-lt}
-use Rattle.ieee.proofs.Bounded.{Bounded, HoldsWhole, holds-whole, bounded-up, zero-bounded}
+use Rattle.ieee.proofs.Bounded.{Bounded, HoldsWhole, holds-whole, bounded-up, plus-zero-bounded}
 use Rattle.ieee.proofs.FromZero.{from-zero-to}
 use Rattle.window.specs.declared.WindowStats.{WindowStats}
 use Rattle.grid.specs.Step.{stepOf}
@@ -84,7 +84,7 @@ module _ (fs : List WindowStats) (many : length fs ≤ 2 ^ 28) (h : Each Small f
   unfolding passOf
   pass-fine = (pass-sigma .fits, pass-sigma .bounded)
 
-  pub ending-sigma : (rounds passes : ℕ) → SigmaIsNumber (endingIn (passOf fs) rounds passes)
+  ending-sigma : (rounds passes : ℕ) → SigmaIsNumber (endingIn (passOf fs) rounds passes)
   ending-sigma rounds passes =
       number-law (endingIn (passOf fs) rounds passes) pass-fine
       (cond-both (λ (k : ℕ). k ≤ 1000 * sigmaMost) (eqb (passOf fs .number) 0) (milliOf (passOf fs .sigma)) 0 (fine-milli (passOf fs .sigma) pass-fine) (omega arith))
@@ -92,11 +92,11 @@ module _ (fs : List WindowStats) (many : length fs ≤ 2 ^ 28) (h : Each Small f
 -- ---- a refusal
 refused-sigma : (number : ℕ) → SigmaIsNumber (refused number)
 unfolding ofBits fits
-refused-sigma number = number-law (refused number) (tt, zero-bounded binary32 sigmaMost) (omega arith)
+refused-sigma number = number-law (refused number) (tt, plus-zero-bounded sigmaMost) (omega arith)
 
 -- ---- an image of pixels 0 to 255
 module _ (img : List ℕ) (bytes : (i : ℕ) → getD img i 0 ≤ 255) (w h : ℕ) where
-  pub measured-sigma : Sides w h → SigmaIsNumber (measured img w h)
+  measured-sigma : Sides w h → SigmaIsNumber (measured img w h)
   unfolding measured decided
   measured-sigma sides =
       let p = passOf (figuresOf img w h firstW) in

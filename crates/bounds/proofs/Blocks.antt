@@ -9,18 +9,18 @@ use native.Mathlib.Nat.{le-trans, le-of-eq, add-mul}
 use native.Mathlib.Omega.{arith}
 use lib.Dec.{lit≤}
 use lib.ListN.{length}
-use lib.Ieee.{Float, nan, Format, binary32, binary64, lt, le}
+use lib.Ieee.{Float, nan, binary32, binary64, lt, le}
 use Rattle.laws.specs.Lists.{Each}
 use Rattle.laws.proofs.Each.{each-or}
-use Rattle.ieee.proofs.Bounded.{Bounded, bounded-up}
+use Rattle.ieee.specs.Numbers.{plusZero}
+use Rattle.ieee.proofs.Bounded.{Bounded, bounded-up, plus-zero-bounded}
 use Rattle.ieee.proofs.BoundedOperations.{add-bounded}
 use Rattle.quantile.specs.Tally.{tally}
 use Rattle.quantile.specs.Rising.{at}
-use Rattle.ieee.specs.Numbers.{plusZero}
 use Rattle.sums.specs.Admitted.{keeps, value, blockSum, blockCount, blocksSum, blocks, admittedBy}
 use Rattle.sums.proofs.Counts.{tally-few, tally-add}
 use Rattle.sums.proofs.Sums.{kept}
-use Rattle.bounds.proofs.Constants.{OutputBounded, outputMost, holds-block, holds-sum, plus-zero-bounded}
+use Rattle.bounds.proofs.Constants.{OutputBounded, outputMost, holds-block, holds-sum}
 
 -- ---- one window
 

@@ -1,13 +1,11 @@
 -- The bounds of a squared output, of a variance and of sigma, and that the formats hold them and their multiples.
-use mathlib.Core.Path.{_≡_, refl}
+use mathlib.Core.Path.{refl}
 use mathlib.Core.Bool.{false}
 use Prim.Native.Nat.{ℕ, _*_, _^_, _≤_, _<_}
-use native.Mathlib.Nat.{le-trans}
 use native.Mathlib.Omega.{arith}
 use lib.Dec.{T, lit≤, lit<}
 use lib.Ieee as Ieee
-use lib.Ieee.{Float, Format, binary32, binary64, prec, emax}
-use Rattle.ieee.specs.Numbers.{plusZero}
+use lib.Ieee.{Float, Format, binary32, binary64}
 use Rattle.ieee.proofs.Bounded.{Bounded, HoldsWhole, holds-whole}
 use Rattle.rounds.specs.declared.Found.{Found}
 use Rattle.rounds.specs.declared.Found.the-variants.{Variance, Missing}
@@ -72,6 +70,3 @@ holds-root = holds-whole binary64 rootMost rootMost 0 (lit< tt) refl (lit≤ tt)
 pub holds-sigma : (f : Format) → HoldsWhole f sigmaMost
 holds-sigma binary32 = holds-whole binary32 sigmaMost sigmaMost 0 (lit< tt) refl (lit≤ tt)
 holds-sigma binary64 = holds-whole binary64 sigmaMost sigmaMost 0 (lit< tt) refl (lit≤ tt)
-
-pub plus-zero-bounded : (n : ℕ) → Bounded plusZero false n
-plus-zero-bounded n = (refl, omega arith)

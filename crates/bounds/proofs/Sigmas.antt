@@ -16,10 +16,10 @@ use lib.Ieee.Exact.{HasValue}
 use Rattle.laws.specs.Lists.{Each}
 use Rattle.laws.proofs.Choice.{cond-both}
 use Rattle.laws.proofs.Each.{each-take, each-drop, each-from}
-use Rattle.ieee.proofs.ConvertFormat.{convert-fits}
-use Rattle.ieee.proofs.Bounded.{Bounded}
-use Rattle.ieee.proofs.BoundedOperations.{add-bounded, mul-bounded, div-bounded, sqrt-bounded, convert-bounded, whole-bounded}
 use Rattle.ieee.specs.Numbers.{f64Of}
+use Rattle.ieee.proofs.ConvertFormat.{convert-fits}
+use Rattle.ieee.proofs.Bounded.{Bounded, plus-zero-bounded}
+use Rattle.ieee.proofs.BoundedOperations.{add-bounded, mul-bounded, div-bounded, sqrt-bounded, convert-bounded, whole-bounded}
 use Rattle.sums.specs.Admitted.{noTotal}
 use Rattle.sums.specs.declared.Total.{Total}
 use Rattle.rounds.specs.Rounds.{band, imageVariance}
@@ -31,7 +31,7 @@ use Rattle.joining.specs.Joining.{variances, median, outlierLimit, withBand, wi
 use Rattle.joining.specs.declared.Sigma.the-variants.{Figure, Number}
 use Rattle.joining.specs.declared.Noise.{Noise}
 use Rattle.bounds.specs.Sigma.{sigmaMost}
-use Rattle.bounds.proofs.Constants.{OutputBounded, FoundBounded, varianceMost, SigmaBounded, holds-count, holds-joined, holds-variance, holds-root, rootMost, holds-sigma, plus-zero-bounded}
+use Rattle.bounds.proofs.Constants.{OutputBounded, FoundBounded, varianceMost, SigmaBounded, holds-count, holds-joined, holds-variance, holds-root, rootMost, holds-sigma}
 use Rattle.bounds.proofs.Variances.{f64-value, band-bounded}
 
 -- ---- the bands that are joined: after j of them

@@ -16,9 +16,9 @@ use lib.Ieee.Back.{round-whole}
 use Rattle.laws.specs.Lists.{Each}
 use Rattle.laws.proofs.Choice.{cond-both}
 use Rattle.ieee.specs.Order.{larger}
+use Rattle.ieee.specs.Numbers.{f64Of}
 use Rattle.ieee.proofs.Bounded.{Bounded}
 use Rattle.ieee.proofs.BoundedOperations.{div-bounded}
-use Rattle.ieee.specs.Numbers.{f64Of}
 use Rattle.sums.specs.Numbers.{roundingOpVar}
 use Rattle.sums.specs.Admitted.{threshold, cut}
 use Rattle.sums.specs.Start.{start}

@@ -1,15 +1,15 @@
 -- A float of a known sign whose size is at most a whole number (`Bounded`), and the whole numbers that a format holds (`HoldsWhole`).
-use mathlib.Core.Path.{_≡_, refl, sym, ap, _∙_, subst}
+use mathlib.Core.Path.{_≡_, refl, sym, ap, _∙_}
 use mathlib.Core.Bool.{Bool, false}
 use Prim.Native.Nat.{ℕ, suc, _+_, _*_, _^_, _≤_, _<_}
 use native.Mathlib.Nat.{le-trans, le-of-eq, lt-of-le-of-lt, le-of-mul-le-mul-right, mul-le-mul-right, mul-one, mul-assoc, mul-right-comm}
 use native.Mathlib.Omega.{arith}
 use lib.Dec.{T, lit<, lit≤}
 use lib.Pow.{pow-add, pow-lt}
-use lib.Ieee.{Float, nan, inf, fin, Format, binary32, binary64, prec, emax, low, up, down, round, ofBits}
+use lib.Ieee.{Float, nan, inf, fin, Format, binary32, binary64, prec, emax, low, up, down, round}
 use lib.Ieee.Exact.{HasValue, round-exact}
 use Rattle.ieee.specs.Order.{finite, negative}
-use Rattle.ieee.proofs.Tests.{zero-is}
+use Rattle.ieee.specs.Numbers.{plusZero}
 
 -- x is finite, has the sign s, and its size is at most n: no NaN, no infinity and, where s is false, no minus zero
 abbrev pub Bounded : Float → Bool → ℕ → Type 0
@@ -43,8 +43,8 @@ bounded-by (fin t m e) s a l n L v h = (
   le-of-mul-le-mul-right (le-trans (le-of-eq (v .1)) (le-trans (mul-le-mul-right (down e) h) (le-of-eq (mul-right-comm n l (down e))))) L,
 )
 
-pub zero-bounded : (f : Format) (n : ℕ) → Bounded (ofBits f 0) false n
-zero-bounded f n = subst (λ (x : Float). Bounded x false n) (sym (zero-is f)) (refl, omega arith)
+pub plus-zero-bounded : (n : ℕ) → Bounded plusZero false n
+plus-zero-bounded n = (refl, omega arith)
 
 -- the format f holds the whole number n, q * 2 ^ j
 pub record HoldsWhole (f : Format) (n : ℕ) : Type 0 where

@@ -12,7 +12,6 @@ use lib.Ieee.Digits.{size-lt, size-le, size-reaches}
 use lib.Ieee.Fits.{down-pos, kept-lt, two, two-le-pos}
 use lib.Ieee.Exact.{HasValue}
 use lib.Ieee.Nearest.{div-mono}
-use Rattle.ieee.specs.Order.{finite, negative}
 use Rattle.ieee.proofs.Values.{rescale, value-negative}
 use Rattle.ieee.proofs.Patterns.{toBits-value}
 use Rattle.ieee.proofs.Grid.{on-grid}

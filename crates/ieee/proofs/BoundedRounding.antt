@@ -1,16 +1,16 @@
 -- A rounded result is at most what the exact one is at most, where that is a whole number n of the format: if the rounded one were
 -- above n, the exact one would be no nearer to n than to it, and so above n.
-use mathlib.Core.Path.{_≡_, sym, ap, _∙_, subst}
+use mathlib.Core.Path.{sym, _∙_, subst}
 use mathlib.Core.Logic.{inl, inr}
 use mathlib.Core.Bool.{Bool}
 use Prim.Native.Nat.{ℕ, suc, _+_, _-_, _*_, _^_, _≤_, _<_}
-use native.Mathlib.Nat.{le-trans, le-of-eq, lt-of-le-of-lt, not-le-of-lt, le-of-mul-le-mul-right, mul-le-mul-right, mul-comm, mul-one, one-mul, mul-assoc, mul-right-comm}
+use native.Mathlib.Nat.{le-trans, le-of-eq, not-le-of-lt, le-of-mul-le-mul-right, mul-le-mul-right, mul-comm, mul-one, one-mul}
 use native.Mathlib.Omega.{arith}
 use lib.Dec.{T, lit<}
-use lib.Pow.{pow-add, pow-pos, pow-lt}
-use lib.Ieee.{Float, nan, inf, fin, Format, binary32, binary64, prec, emax, low, down, round}
+use lib.Pow.{pow-pos}
+use lib.Ieee.{Float, Format, binary32, binary64, prec, emax, low, round}
 use lib.Ieee.Fits.{round-fits}
-use lib.Ieee.Exact.{HasValue, round-exact}
+use lib.Ieee.Exact.{HasValue}
 use Rattle.ieee.specs.Order.{finite}
 use Rattle.ieee.specs.Rounding.{Exact, AtMost, Overflows, RoundTiesToEven}
 use Rattle.ieee.proofs.Naturals.{le-or-lt}

@@ -2,7 +2,7 @@
 -- by roundTiesToEven (`from-int-rounds`), and nothing else is what that asks (`from-int-only`). Zero is plus zero (`from-int-zero`).
 use mathlib.Core.Path.{_≡_, refl}
 use mathlib.Core.Bool.{Bool, true, false}
-use Prim.Native.Nat.{ℕ, suc}
+use Prim.Native.Nat.{suc}
 use lib.Dec.{lit<}
 use lib.IntN.{ℤ, pos, negsuc, natAbs}
 use lib.Ieee.{Float, Format, binary32, binary64, ofInt}

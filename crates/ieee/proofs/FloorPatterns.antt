@@ -1,4 +1,4 @@
--- `floor binary32`, as patterns: what floor32 makes of the 24 digits, cut at p, and of the sign (`floor-part`). The size cut depends on the size alone (`cut-same`), so p stands in for the denominator.
+-- `floor binary32`, as patterns: what floor32 makes of the 24 digits over p, and of the sign (`floor-part`). The size cut depends on the size alone (`cut-same`), so p stands in for the denominator.
 use mathlib.Core.Path.{_≡_, refl, sym, ap, _∙_, subst}
 use mathlib.Core.Logic.{_⊎_, inl, inr}
 use mathlib.Core.Bool.{Bool, true, false, not, cond}

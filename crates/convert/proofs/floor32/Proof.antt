@@ -1,4 +1,4 @@
--- The digits, cut at p, are the number cut at 1; zeros and what is from 2 ^ 23 on stay.
+-- The digits over p are the number, so they are rounded alike; zeros and what is from 2 ^ 23 on stay.
 use mathlib.Core.Path.{sym, _∙_, subst}
 use mathlib.Core.Logic.{⊎-elim, inl, inr}
 use mathlib.Core.Bool.{not, true, false}
