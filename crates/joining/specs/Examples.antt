@@ -129,7 +129,7 @@ unfolding noiseUnder sigmaOf decided joined outlierLimit median bandVariance jud
     threshold cut convert totalLess negative isNan larger magnitude sub neg add mul div lt le eq ofInt round
 four-rounds = refl
 
--- so it is where the 128 windows stand in band 1, 2 or 3 alone
+-- the same where the 128 windows stand in band 1, 2 or 3 and none in the others
 abbrev from128 : List ℕ → Noise
 from128 starts = noiseUnder (zeros 128) (zeros 128) starts (settledAt 128 (f64Of 0) 3)
 
