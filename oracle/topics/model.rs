@@ -242,7 +242,7 @@ fn single(width: f32, gain: f32, residual: f32, floor: f32) -> Knots {
     Knots { widths: first(width), gains: first(gain), residuals: first(residual), count: 1, floor }
 }
 
-/// Document 01's estimate that is 13: a gain of 1e-20, an offset of (1, 0), a grid of 1.
+/// An estimate that is 13: its gain is too small for its offset.
 fn overflowing() -> Estimate {
     (single(1.0, 1e-20, 0.0, 0.0), [0.0; 3], [1.0, 0.0], None, 1.0)
 }
