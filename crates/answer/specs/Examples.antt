@@ -10,7 +10,18 @@ use Rattle.answer.specs.Fields.{wordsOf, bytesOfWords, answerBytes}
 
 abbrev ten : Answer
 ten =
-    record { number = 7; sigma = f32Of 1; milli = 1000; b0 = 0x0403_0201; b1 = 11; b2 = 12; b3 = 13; rail = 14; rounds = 15; passes = 2 }
+    record {
+      number = 7;
+      sigma = f32Of 1;
+      milli = 1000;
+      b0 = 0x0403_0201;
+      b1 = 11;
+      b2 = 12;
+      b3 = 13;
+      rail = 14;
+      rounds = 15;
+      passes = 2;
+    }
 
 pub worked-words : wordsOf ten ≡ 7 ∷ 0x3F80_0000 ∷ 1000 ∷ 0x0403_0201 ∷ 11 ∷ 12 ∷ 13 ∷ 14 ∷ 15 ∷ 2 ∷ []
 unfolding ofInt toBits

@@ -29,4 +29,5 @@ pub record ToldAt (a : At) (number : ℕ) (out : List Float) : Type 0 where
 pub record ToldModel (m : Modelled) (number : ℕ) (out : List Float) : Type 0 where
   pub told : number ≡ m .number
   pub laid : out
-      ≡ entries (m .model .noise) ++ (entries (m .model .systematic) ++ (getD (m .model .growth) 0 nan ∷ getD (m .model .growth) 1 nan ∷ []))
+      ≡ entries (m .model .noise)
+      ++ (entries (m .model .systematic) ++ (getD (m .model .growth) 0 nan ∷ getD (m .model .growth) 1 nan ∷ []))

@@ -9,9 +9,13 @@ use lib.Ieee
 use lib.Ieee.{Float, nan, inf, binary32, ofBits}
 use Rattle.ieee.specs.Order.{finite}
 use Rattle.ieee.specs.Numbers.{plusZero}
+use Rattle.ieee.specs.Convert.{convert}
+use Rattle.refine.specs.Covariance.{number}
+use Rattle.support.specs.Support.{afterState}
+use Rattle.gram.specs.Gram.{productSum}
 use Rattle.gradients.specs.declared.PixelGradients.{PixelGradients}
 use Rattle.gradients.specs.declared.Handed.{Handed}
-use Rattle.gradients.specs.Gradients.{cleared, cell, inSupport, addNumber, addOf}
+use Rattle.gradients.specs.Gradients.{cleared, cell, inSupport, addNumber, addOf, covarianceOf}
 
 abbrev three : PixelGradients
 three = cleared (pos 5 ∷ negsuc 6 ∷ []) 3
@@ -40,3 +44,12 @@ pub addition : sums (addOf three (pos 7) (negsuc 6) (ofBits binary32 0x3f80_0000
     ≡ ofBits binary32 0x3f80_0000 ∷ ofBits binary32 0x4000_0000 ∷ plusZero ∷ []
 unfolding addOf finite ofBits Ieee.add
 addition = refl
+
+-- the state is judged before the figure, and its origin before its side: a NaN gradient in a support from 1,000,001 on with side 33,
+-- from 0 on with side 33, and with side 1
+abbrev covarianceNumber : ℤ → ℕ → ℕ
+covarianceNumber x side = number (covarianceOf (record { origin = x ∷ pos 0 ∷ []; side = side; gx = nan ∷ []; gy = nan ∷ [] }))
+
+pub state-first : covarianceNumber (pos 1000001) 33 ∷ covarianceNumber (pos 0) 33 ∷ covarianceNumber (pos 0) 1 ∷ [] ≡ 8 ∷ 10 ∷ 13 ∷ []
+unfolding covarianceOf afterState productSum convert finite Ieee.add Ieee.mul
+state-first = refl

@@ -18,6 +18,7 @@ use Rattle.rounds.specs.declared.Found.{Found}
 use Rattle.rounds.specs.declared.Found.the-variants.{Variance, Missing}
 use Rattle.joining.specs.Joining.{median, outlierLimit, withBand, joined, deviation, decided, sigmaOf, noise, noiseUnder}
 use Rattle.joining.specs.declared.Sigma.the-variants.{Figure, Number}
+use Rattle.joining.specs.declared.Noise.{Noise}
 
 abbrev total : ℕ → ℕ → Total
 total n sum = totalOf n (f64Of sum)
@@ -127,3 +128,28 @@ pub four-rounds : noiseUnder (zeros 128) (zeros 128) (inBand0 128) (settledAt 12
 unfolding noiseUnder sigmaOf decided joined outlierLimit median bandVariance judged settle maxRounds oneRound next near start quiet meanQuiet mean
     threshold cut convert totalLess negative isNan larger magnitude sub neg add mul div lt le eq ofInt round
 four-rounds = refl
+
+-- the same where the 128 windows stand in band 1, 2 or 3 and none in the others
+abbrev from128 : List ℕ → Noise
+from128 starts = noiseUnder (zeros 128) (zeros 128) starts (settledAt 128 (f64Of 0) 3)
+
+pub each-band : (from128 (0 ∷ 0 ∷ 128 ∷ 128 ∷ 128 ∷ []) ≡ record { sigma = Number 7; rounds = 4 })
+    × (from128 (0 ∷ 0 ∷ 0 ∷ 128 ∷ 128 ∷ []) ≡ record { sigma = Number 7; rounds = 4 })
+    × (from128 (0 ∷ 0 ∷ 0 ∷ 0 ∷ 128 ∷ []) ≡ record { sigma = Number 7; rounds = 4 })
+unfolding noiseUnder sigmaOf decided joined outlierLimit median bandVariance judged settle maxRounds oneRound next near start quiet meanQuiet mean
+    threshold cut convert totalLess negative isNan larger magnitude sub neg add mul div lt le eq ofInt round
+each-band = (refl, refl, refl)
+
+-- four bands of 128 windows are joined to 512, and each has its round
+pub all-bands : noiseUnder (zeros 512) (zeros 512) (0 ∷ 128 ∷ 256 ∷ 384 ∷ 512 ∷ []) (settledAt 512 (f64Of 0) 3)
+    ≡ record { sigma = Figure plusZero; rounds = 7 }
+unfolding noiseUnder sigmaOf decided deviation sqrt joined outlierLimit median bandVariance judged settle maxRounds oneRound next near start quiet
+    meanQuiet mean threshold cut convert totalLess negative isNan larger magnitude sub neg add mul div lt le eq ofInt round
+all-bands = refl
+
+-- a band's two rounds count also where it has no variance in the end: one of about 1,001, above 8 times the image's 100
+pub rounds-without-variance : noiseUnder (zeros 128) (from (λ (k : ℕ). f64Of 1000) 0 128) (inBand0 128) (settledAt 128 (f64Of 100) 3)
+    ≡ record { sigma = Number 6; rounds = 5 }
+unfolding noiseUnder sigmaOf bandVariance judged settle maxRounds oneRound next near start quiet meanQuiet mean threshold cut convert totalLess
+    negative isNan larger magnitude sub neg add mul div lt le eq ofInt round
+rounds-without-variance = refl

@@ -7,8 +7,9 @@ use Prim.Native.Nat.{ℕ}
 use lib.Ieee
 use lib.Ieee.{Float, binary32, ofBits}
 use Rattle.ieee.specs.Order.{finite}
+use Rattle.ranges.specs.Ranges.{within}
 use Rattle.knots.specs.declared.Width.the-variants.{Known, Unknown}
-use Rattle.knots.specs.Places.{risesAt, place, valueAt}
+use Rattle.knots.specs.Places.{risesAt, knotAt, place, valueAt}
 
 abbrev floats : List ℕ → List Float
 floats l = map (ofBits binary32) l
@@ -84,3 +85,11 @@ pub strictly : risesAt (floats (0x3f80_0000 ∷ 0x3f80_0001 ∷ [])) 0 ∷ rises
     ≡ true ∷ false ∷ false ∷ []
 unfolding ofBits Ieee.lt
 strictly = refl
+
+-- a knot's number is within 1,000: 1,000 and -1,000 are, the next floats, an infinity and a NaN are not
+abbrev ends-of-range : List Float
+ends-of-range = floats (0x447a_0000 ∷ 0xc47a_0000 ∷ 0x447a_0001 ∷ 0xc47a_0001 ∷ 0x7f80_0000 ∷ 0x7fc0_0000 ∷ [])
+
+pub in-range : map (knotAt ends-of-range) (0 ∷ 1 ∷ 2 ∷ 3 ∷ 4 ∷ 5 ∷ []) ≡ true ∷ true ∷ false ∷ false ∷ false ∷ false ∷ []
+unfolding within ofBits
+in-range = refl

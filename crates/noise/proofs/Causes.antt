@@ -115,7 +115,7 @@ module _ (w h ints floats m : ℕ) (is : m ≡ neededOf w h) where
   enough p q = rw (← is, le-ltb ints (3 * m) p, le-ltb floats (2 * m + 2) q)
 
 -- M is small
-needed-most : (w h : ℕ) → Sides w h → neededOf w h ≤ 268435456
+pub needed-most : (w h : ℕ) → Sides w h → neededOf w h ≤ 268435456
 needed-most w h s = no-more w h 268435456 (le-trans (total-most w h firstW (omega arith)) (few w h s)) (λ _. le-trans (total-most w h secondW (omega arith)) (few w h s))
 
 -- ---- a call that is not refused

@@ -5,10 +5,11 @@ use lib.ListN.{length}
 use lib.Ieee.{Float}
 use Rattle.quantile.specs.Rising.{at, rising}
 
--- of len gates every so many are taken: max(1, ceil(len / 255)). These are so many:
+-- of len gates those at places 0, stride, 2 stride and so on are taken, where the stride is max(1, ceil(len / 255))
 abbrev pub stride : ℕ → ℕ
 stride len = max 1 ((len + 254) / 255)
 
+-- how many of len gates are taken
 abbrev pub taken : ℕ → ℕ
 taken len = (len + (stride len - 1)) / stride len
 

@@ -105,6 +105,18 @@ unfolding bandVariance judged settle maxRounds oneRound next near start quiet me
     magnitude sub neg add mul div lt le eq ofInt round
 enough-windows = refl
 
+-- a band's rounds count also where it has no variance in the end: 128 windows of output 1,000 under an image of 100, and 128 of
+-- output 10 of which the first one's gate keeps it out, settle in their second round
+abbrev same-outputs : Float → ℕ → Float → BandVariance
+same-outputs first-gate output image =
+    bandVariance (first-gate ∷ from (λ (k : ℕ). f64Of 0) 0 127) (from (λ (k : ℕ). f64Of output) 0 128) image
+
+pub rounds-without-variance : (same-outputs (f64Of 0) 1000 (f64Of 100) ≡ record { found = Missing; rounds = 2 })
+    × (same-outputs (f64Of 1000) 10 (f64Of 100) ≡ record { found = Missing; rounds = 2 })
+unfolding bandVariance judged settle maxRounds oneRound next near start quiet meanQuiet mean threshold cut convert totalLess negative isNan larger
+    magnitude sub neg add mul div lt le eq ofInt round
+rounds-without-variance = (refl, refl)
+
 -- ---- the image
 
 -- each of the four bands has a block of its own: in f32 16,777,216 and three ones make 16,777,216

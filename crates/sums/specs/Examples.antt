@@ -21,7 +21,8 @@ pub least-variance : (threshold (f64Of 0) ≡ ofBits binary32 0x4426_AAAB) × (c
 unfolding threshold cut convert mul larger lt eq ofBits ofInt round
 least-variance = (refl, refl)
 
--- 17,000,941 / 80 times 20 is, once rounded, half-way between two f32, and goes to the even one; so does 19,694,087 / 32 times 16
+-- the f64 of 17,000,941 / 80, times 20, lies just above the middle of two f32. Rounded to f64 it is that middle and goes to the
+-- even one, below; rounded to f32 at once it would go up. 19,694,087 / 32 times 16 is a middle and goes to the even one, above
 pub half-way : (threshold (round binary64 false 17000941 80) ≡ ofBits binary32 0x4A81_B4F6)
     × (cut (round binary64 false 19694087 32) ≡ ofBits binary32 0x4B16_4104)
 unfolding threshold cut convert mul larger lt eq ofBits ofInt round

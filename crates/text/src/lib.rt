@@ -1,16 +1,16 @@
 // Numbers and lines of fields as text, in lent bytes.
 ghost use mathlib.Core.Path.{_≡_};
-ghost use mathlib.Core.List.{_++_};
 ghost use Prim.Native.Nat.{_+_, _*_, _<_, _≤_};
-ghost use lib.ListN.{length, drop};
+ghost use lib.ListN.{length};
 ghost use Rattle.laws.specs.Lists.{laid};
 ghost use Rattle.text.specs.Numerals.{decimalOf, digitOf, hex4Of, hex8Of};
 ghost use Rattle.text.specs.Line.{fieldOf, fieldThen, endOf, lineOf, under};
+ghost use Rattle.text.specs.Placed.{LaidTo, Fronted};
 
 // Lays s over what stands from place `at` on, and answers where it ends. All other bytes stay, here and below.
 pub fn put(out: &mut [u8], at: usize, s: &[u8]) -> usize
     requires { ⌜ at + length (now s) ≤ length (now out) ⌝ }
-    ensures { λ r. ⌜ (r ≡ at + length (now (s .entry))) × (now (out .exit) ≡ laid (now (out .entry)) at (now (s .entry))) ⌝ }
+    ensures { λ r. ⌜ LaidTo (now (out .entry)) at (now (s .entry)) r (now (out .exit)) ⌝ }
 {
     let mut k = 0;
     while k < s.len() {
@@ -23,7 +23,7 @@ pub fn put(out: &mut [u8], at: usize, s: &[u8]) -> usize
 // n in decimal, without leading zeros.
 pub fn put_decimal(out: &mut [u8], at: usize, n: u64) -> usize
     requires { ⌜ at + 20 ≤ length (now out) ⌝ }
-    ensures { λ r. ⌜ (r ≡ at + length (decimalOf n)) × (now (out .exit) ≡ laid (now (out .entry)) at (decimalOf n)) ⌝ }
+    ensures { λ r. ⌜ LaidTo (now (out .entry)) at (decimalOf n) r (now (out .exit)) ⌝ }
 {
     let mut text = [0u8; 20];
     let k = io::decimal(n, &mut text);
@@ -60,7 +60,7 @@ pub fn put_hex8(out: &mut [u8], at: usize, x: u32) -> usize
 // A field's text.
 fn put_value(out: &mut [u8], at: usize, kind: u8, x: u64) -> usize
     requires { ⌜ at + 20 ≤ length (now out) ⌝ }
-    ensures { λ r. ⌜ (r ≡ at + length (fieldOf kind x)) × (now (out .exit) ≡ laid (now (out .entry)) at (fieldOf kind x)) ⌝ }
+    ensures { λ r. ⌜ LaidTo (now (out .entry)) at (fieldOf kind x) r (now (out .exit)) ⌝ }
 {
     if kind == 1 {
         return put_hex8(out, at, (x % 0x1_0000_0000) as u32);
@@ -71,7 +71,7 @@ fn put_value(out: &mut [u8], at: usize, kind: u8, x: u64) -> usize
 // A field and the byte that stands after it.
 fn put_field(out: &mut [u8], at: usize, kind: u8, x: u64, end: u8) -> usize
     requires { ⌜ at + 21 ≤ length (now out) ⌝ }
-    ensures { λ r. ⌜ (r ≡ at + length (fieldThen kind x end)) × (now (out .exit) ≡ laid (now (out .entry)) at (fieldThen kind x end)) ⌝ }
+    ensures { λ r. ⌜ LaidTo (now (out .entry)) at (fieldThen kind x end) r (now (out .exit)) ⌝ }
 {
     let to = put_value(out, at, kind, x);
     let last = [end];
@@ -88,8 +88,7 @@ fn end_of(k: usize, n: usize) -> u8
 // The line of the fields with these kinds and values.
 pub fn put_line(out: &mut [u8], at: usize, kinds: &[u8], values: &[u64]) -> usize
     requires { ⌜ (length (now kinds) ≡ length (now values)) × (at + 21 * length (now values) ≤ length (now out)) ⌝ }
-    ensures { λ r. ⌜ (r ≡ at + length (lineOf (now (kinds .entry)) (now (values .entry))))
-        × (now (out .exit) ≡ laid (now (out .entry)) at (lineOf (now (kinds .entry)) (now (values .entry)))) ⌝ }
+    ensures { λ r. ⌜ LaidTo (now (out .entry)) at (lineOf (now (kinds .entry)) (now (values .entry))) r (now (out .exit)) ⌝ }
 {
     let n = values.len();
     let mut to = at;
@@ -105,8 +104,8 @@ pub fn put_line(out: &mut [u8], at: usize, kinds: &[u8], values: &[u64]) -> usiz
 pub fn put_report(out: &mut [u8], header: &[u8], kinds: &[u8], values: &[u64]) -> usize
     requires { ⌜ (length (now kinds) ≡ length (now values))
         × (length (now header) + 21 * length (now values) ≤ length (now out)) ⌝ }
-    ensures { λ r. ⌜ (r ≡ length (under (now (header .entry)) (now (kinds .entry)) (now (values .entry))))
-        × (now (out .exit) ≡ under (now (header .entry)) (now (kinds .entry)) (now (values .entry)) ++ drop r (now (out .entry))) ⌝ }
+    ensures { λ r. ⌜ Fronted (now (out .entry)) (under (now (header .entry)) (now (kinds .entry)) (now (values .entry)))
+        r (now (out .exit)) ⌝ }
 {
     let to = put(out, 0, header);
     put_line(out, to, kinds, values)

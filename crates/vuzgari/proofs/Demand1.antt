@@ -1,22 +1,20 @@
--- Demand 1 at the noise call from C: its number is the noise call's, and by it memory is left or changed. Assumes nothing.
+-- Demand 1 at the noise call from C: its answer is a noise call's, and by its number memory is left or changed. Assumes nothing.
 use mathlib.Core.Path.{_≡_, refl, ap}
-use mathlib.Core.Bool.{Bool, true, false, cond, _||_}
+use mathlib.Core.Bool.{Bool, true, false, cond}
 use mathlib.Core.Logic.{_⊎_, inl, inr}
 use mathlib.Core.List.{List, _++_}
 use Prim.Native.Nat.{ℕ, suc, _≤_}
 use native.Mathlib.Omega.{arith}
-use lib.Dec.{ltb, eqb}
 use lib.ListN.{length, drop}
 use lib.IntN.{ℤ}
 use lib.Ieee.{Float}
 use Rattle.grid.specs.Needed.{neededOf}
 use Rattle.answer.specs.declared.Answer.{Answer}
 use Rattle.answer.specs.Fields.{answerBytes}
-use Rattle.noise.specs.Refusals.{shortOf}
 use Rattle.noise.specs.Call.{ran, clearedInts, clearedFloats}
 use Rattle.noise.proofs.Numbers.{ran-not, ran-is}
 use Rattle.noise.proofs.Demand1 as Noise
-use Rattle.vuzgari.specs.Noise.{noiseFor}
+use Rattle.vuzgari.specs.Noise.{shortFor, noiseFor}
 use Rattle.vuzgari.specs.Demand1.{Lent, Demand1AtC}
 
 lent : (a : Answer) (w h : ℕ) (ints : List ℤ) (floats : List Float) (out : List ℕ) → Lent a w h ints floats out
@@ -39,6 +37,6 @@ lent a w h ints floats out =
 pub demand1 : (pixels : List ℕ) (w h : ℕ) (ints : List ℤ) (floats : List Float) (out : List ℕ) → Demand1AtC pixels w h ints floats out
 demand1 pixels w h ints floats out =
     record {
-      noise = Noise.demand1 pixels w h (shortOf w h (length ints) (length floats) || ltb (length out) 40);
+      noise = Noise.demand1 pixels w h (shortFor w h (length ints) (length floats) (length out));
       lent = lent (noiseFor pixels w h ints floats out) w h ints floats out;
     }

@@ -1,21 +1,18 @@
--- Demand 1 at the noise call from C, for every argument: its number is the noise call's, and what it is lent changes exactly after
--- 0, 5, 6 and 7.
+-- Demand 1 at the noise call from C, for every argument: what it answers, and that what it is lent changes exactly after 0, 5, 6
+-- and 7.
 use mathlib.Core.Path.{_≡_}
-use mathlib.Core.Bool.{_||_}
 use mathlib.Core.Logic.{_⊎_}
 use mathlib.Core.List.{List, _++_}
 use Prim.Native.Nat.{ℕ, _≤_}
-use lib.Dec.{ltb}
 use lib.ListN.{length, drop}
 use lib.IntN.{ℤ}
 use lib.Ieee.{Float}
 use Rattle.grid.specs.Needed.{neededOf}
 use Rattle.answer.specs.declared.Answer.{Answer}
 use Rattle.answer.specs.Fields.{answerBytes}
-use Rattle.noise.specs.Refusals.{shortOf}
 use Rattle.noise.specs.Call.{clearedInts, clearedFloats, leftInts, leftFloats}
-use Rattle.noise.specs.Demand1.{NoiseMeets}
-use Rattle.vuzgari.specs.Noise.{noiseFor, leftBytes}
+use Rattle.noise.specs.Demand1.{Meets}
+use Rattle.vuzgari.specs.Noise.{shortFor, noiseFor, leftBytes}
 
 -- what was lent for answer a
 pub record Lent (a : Answer) (w h : ℕ) (ints : List ℤ) (floats : List Float) (out : List ℕ) : Type 0 where
@@ -29,5 +26,5 @@ pub record Lent (a : Answer) (w h : ℕ) (ints : List ℤ) (floats : List Float)
       × (leftBytes out a ≡ answerBytes a ++ drop 40 out)
 
 pub record Demand1AtC (pixels : List ℕ) (w h : ℕ) (ints : List ℤ) (floats : List Float) (out : List ℕ) : Type 0 where
-  pub noise : NoiseMeets pixels w h (shortOf w h (length ints) (length floats) || ltb (length out) 40)
+  pub noise : Meets pixels w h (shortFor w h (length ints) (length floats) (length out)) (noiseFor pixels w h ints floats out)
   pub lent : Lent (noiseFor pixels w h ints floats out) w h ints floats out

@@ -1,5 +1,5 @@
 -- The noise call as C makes it: the answer to its arguments, and what it leaves in the answer slice.
-use mathlib.Core.Bool.{cond, _||_}
+use mathlib.Core.Bool.{Bool, cond, _||_}
 use mathlib.Core.List.{List, _++_}
 use Prim.Native.Nat.{ℕ}
 use lib.Dec.{ltb}
@@ -11,9 +11,12 @@ use Rattle.answer.specs.Fields.{answerBytes}
 use Rattle.noise.specs.Refusals.{shortOf}
 use Rattle.noise.specs.Call.{noiseOf, ran}
 
--- an answer slice under 40 bytes counts as a work slice too short
+-- number 4, by the lengths of the work slices and of the answer slice: also where this is under 40 bytes
+abbrev pub shortFor : ℕ → ℕ → ℕ → ℕ → ℕ → Bool
+shortFor w h ints floats out = shortOf w h ints floats || ltb out 40
+
 abbrev pub noiseFor : List ℕ → ℕ → ℕ → List ℤ → List Float → List ℕ → Answer
-noiseFor pixels w h ints floats out = noiseOf pixels w h (shortOf w h (length ints) (length floats) || ltb (length out) 40)
+noiseFor pixels w h ints floats out = noiseOf pixels w h (shortFor w h (length ints) (length floats) (length out))
 
 -- after 0, 5, 6 or 7 the answer's 40 bytes and what stood beyond them; after any other number all as it was
 abbrev pub leftBytes : List ℕ → Answer → List ℕ
