@@ -65,15 +65,22 @@ fn marked(part: &str) -> (String, Vec<String>) {
     (head, pieces.step_by(2).map(str::to_string).collect())
 }
 
-/// The definition of a name in a file of antt: words that open one, the name, and what may follow it.
+/// The definition of a name in a file of antt: words that open one, the name, and what may follow it. It stands by itself or in a
+/// module; what stands under another line is a field, a constructor or a help.
 fn defines(text: &str, name: &str, public: bool) -> bool {
-    text.lines().any(|line| {
+    let mut above: Vec<(usize, bool)> = vec![];
+    text.lines().filter(|line| !line.trim().is_empty()).any(|line| {
+        let indent = line.len() - line.trim_start().len();
+        while above.pop_if(|(other, _)| *other >= indent).is_some() {}
+        let free = above.iter().all(|(_, module)| *module);
         let mut words = line.split_whitespace().peekable();
-        let mut seen = false;
+        let (mut seen, mut module) = (false, false);
         while let Some(word) = words.next_if(|word| ["pub", "abbrev", "unfoldable", "record", "data", "module"].contains(word)) {
             seen |= word == "pub";
+            module |= word == "module";
         }
-        words.next() == Some(name) && (seen || !public) && words.next().is_some()
+        above.push((indent, module));
+        free && words.next() == Some(name) && (seen || !public) && words.next().is_some()
     })
 }
 
@@ -91,12 +98,87 @@ fn sources(folder: &str, extension: &str) -> String {
     text
 }
 
-/// A function of a crate: its name as callers write it, whether it is public, and whether it requires and ensures something.
+/// A function of a crate: its name as callers write it, whether it is public, whether it requires and ensures something, and whether
+/// it gives something back (a result or what it is lent) that no `ensures` speaks of.
+#[derive(Default)]
 struct Function {
     name: String,
     public: bool,
     requires: bool,
     ensures: bool,
+    untold: bool,
+}
+
+/// The words and marks of Rattle code, without comments and what stands in quotes.
+fn tokens(text: &str) -> Vec<String> {
+    let letters: Vec<char> = text.chars().collect();
+    let at = |k: usize| letters.get(k).copied().unwrap_or(' ');
+    let past = |from: usize, end: &[char]| (from..letters.len()).find(|&k| letters[k..].starts_with(end)).map_or(letters.len(), |k| k + end.len());
+    let word = |c: char| c.is_alphanumeric() || c == '_';
+    let mut all = vec![];
+    let mut k = 0;
+    while k < letters.len() {
+        k = match (at(k), at(k + 1)) {
+            ('/', '/') => past(k, &['\n']),
+            ('/', '*') => past(k + 2, &['*', '/']),
+            ('"', _) => {
+                let mut end = k + 1;
+                while end < letters.len() && at(end) != '"' {
+                    end += 1 + usize::from(at(end) == '\\');
+                }
+                end + 1
+            }
+            ('\'', '\\') => past(k + 3, &['\'']),
+            ('\'', _) if at(k + 2) == '\'' => k + 3,
+            (c, _) if c.is_whitespace() => k + 1,
+            (c, _) => {
+                let end = if word(c) { (k..letters.len()).find(|&k| !word(letters[k])).unwrap_or(letters.len()) } else { k + 1 };
+                all.push(letters[k..end].iter().collect());
+                end
+            }
+        };
+    }
+    all
+}
+
+/// Past the bracket that closes the one at `from`.
+fn closed(tokens: &[String], from: usize) -> usize {
+    let mut depth = 0;
+    for (k, token) in tokens.iter().enumerate().skip(from) {
+        depth += i32::from(["(", "[", "{"].contains(&token.as_str())) - i32::from([")", "]", "}"].contains(&token.as_str()));
+        if depth == 0 {
+            return k + 1;
+        }
+    }
+    tokens.len()
+}
+
+/// The function whose name is at `from`, and where its body begins. `requires` and `ensures` have braces, and the first others are the
+/// body's.
+fn function(tokens: &[String], from: usize) -> (Function, usize) {
+    let is = |k: usize, word: &str| tokens.get(k).is_some_and(|token| token == word);
+    let mut f = Function { name: tokens[from].clone(), ..Function::default() };
+    let (mut result, mut lent, mut told) = (false, false, false);
+    let mut k = from + 1;
+    while k < tokens.len() && !is(k, ";") {
+        let end = if ["(", "[", "{"].contains(&tokens[k].as_str()) { closed(tokens, k) } else { k + 1 };
+        let inner = &tokens[k + 1..end.max(k + 1)];
+        match tokens[k].as_str() {
+            "{" if is(k - 1, "requires") => f.requires = true,
+            "{" if is(k - 1, "ensures") => {
+                f.ensures = true;
+                // λ r. and a use of r
+                told |= inner.get(1).is_some_and(|r| inner[2..].contains(r));
+            }
+            "{" => break,
+            "(" if !result => lent |= (1..inner.len()).any(|k| inner[k] == "mut" && (inner[k - 1] == "&" || k > 1 && inner[k - 2] == "'")),
+            ">" if is(k - 1, "-") => result = !(is(k + 1, "(") && is(k + 2, ")")),
+            _ => {}
+        }
+        k = end;
+    }
+    f.untold = result && !told || lent && !f.ensures;
+    (f, k)
 }
 
 /// The functions of a crate. A module that lib.rt does not declare `pub mod` has no public ones.
@@ -110,31 +192,31 @@ fn functions(name: &str) -> Vec<Function> {
             "lib" | "main" => (String::new(), module == "lib"),
             _ => (format!("{module}::"), root.contains(&format!("pub mod {module};"))),
         };
-        let text = read(&format!("{folder}/{file}")).unwrap_or_default();
-        let mut within = String::new();
-        let mut lines = text.lines();
-        while let Some(line) = lines.next() {
-            if let Some(rest) = line.strip_prefix("impl ") {
-                within = format!("{}::", rest.trim_end_matches('{').trim().split('<').next().unwrap_or(""));
-            } else if line == "}" {
+        let tokens = tokens(&read(&format!("{folder}/{file}")).unwrap_or_default());
+        let (mut within, mut until) = (String::new(), 0);
+        let mut k = 0;
+        while k < tokens.len() {
+            if k >= until {
                 within.clear();
             }
-            let start = line.trim_start();
-            let words = start.strip_prefix("pub ").unwrap_or(start);
-            let Some(rest) = words.strip_prefix("extern \"C\" ").unwrap_or(words).strip_prefix("fn ") else { continue };
-            let end = rest.find(['(', '<']).unwrap_or(rest.len());
-            let mut signature = line.to_string();
-            while !signature.trim_end().ends_with('{') {
-                let Some(line) = lines.next() else { break };
-                signature += "\n";
-                signature += line;
+            match tokens[k].as_str() {
+                "impl" => {
+                    let open = (k..tokens.len()).find(|&k| tokens[k] == "{").unwrap_or(tokens.len());
+                    // impl<'a> Name<'a>
+                    let first = if tokens[k + 1] == "<" { (k..open).find(|&k| tokens[k] == ">").unwrap_or(k) + 1 } else { k + 1 };
+                    within = format!("{}::", tokens[first]);
+                    until = closed(&tokens, open) - 1;
+                    k = open + 1;
+                }
+                "fn" if k + 1 < tokens.len() => {
+                    let before = tokens[..k].iter().rev().find(|token| *token != "extern");
+                    let (f, body) = function(&tokens, k + 1);
+                    let public = shown && before.is_some_and(|token| token == "pub");
+                    all.push(Function { name: format!("{prefix}{within}{}", f.name), public, ..f });
+                    k = closed(&tokens, body).max(k + 1);
+                }
+                _ => k += 1,
             }
-            all.push(Function {
-                name: format!("{prefix}{within}{}", &rest[..end]),
-                public: shown && start.starts_with("pub "),
-                requires: signature.contains("requires {"),
-                ensures: signature.contains("ensures {"),
-            });
         }
     }
     all
@@ -167,8 +249,14 @@ fn row(ledger: &mut Ledger, at: usize, line: &str, crates: &[String], topics: &[
     for (kind, cell) in [("definition", definition), ("law or contract", contract), ("edit", edit)] {
         let folder = if kind == "definition" { "specs" } else { "proofs" };
         let mut files: Vec<String> = vec![];
+        if !cell.contains(char::is_alphanumeric) {
+            ledger.fault(at, &format!("{kind}: an empty cell"));
+        }
         for part in plain(cell).split(';').map(str::trim).filter(|part| !part.is_empty()) {
             let (head, names) = marked(part);
+            if names.is_empty() {
+                ledger.fault(at, &format!("{kind}: {part:?} names nothing"));
+            }
             let Some((named, found)) = place(&head, crates) else {
                 if kind != "edit" || names.iter().any(|name| !name.contains('/') || !Path::new(name).exists()) {
                     ledger.fault(at, &format!("{kind}: {head:?} names no place"));
@@ -213,9 +301,6 @@ fn row(ledger: &mut Ledger, at: usize, line: &str, crates: &[String], topics: &[
                 } else if !paths.iter().any(|path| defines(&read(path).unwrap_or_default(), &name, kind == "definition")) {
                     ledger.fault(at, &format!("{kind} `{name}`: not in {}", paths.join(", ")));
                 }
-            }
-            if kind == "law or contract" && paths.is_empty() && marked(part).1.is_empty() {
-                ledger.fault(at, &format!("{kind}: {part:?} names nothing"));
             }
         }
     }
@@ -307,6 +392,9 @@ fn main() {
             let full = format!("{name}::{}", f.name);
             if !ledger.functions.contains(&full) {
                 ledger.faults.push(format!("{CLAIMS}: the public function {full} is in neither list"));
+            }
+            if f.untold {
+                ledger.faults.push(format!("crates/{name}/src: no ensures of the public function {full} speaks of what it gives back"));
             }
             if name == "vuzgari" && f.requires {
                 ledger.faults.push(format!("crates/vuzgari/src: the C call {full} requires something"));

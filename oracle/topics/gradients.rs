@@ -28,7 +28,20 @@ struct State {
 }
 
 /// What a call leaves: its number, and the state's parts.
-type Left = (u32, [i32; 2], usize, Vec<f32>);
+type Left = (u32, [i32; 2], usize, Vec<Bits>);
+
+/// A cell, bit for bit.
+#[derive(Clone)]
+struct Bits(u32);
+
+impl Value for Bits {
+    fn same(&self, other: &Self) -> bool {
+        self.0 == other.0
+    }
+    fn shown(&self) -> String {
+        format!("{:08x}", self.0)
+    }
+}
 
 const REACH: i32 = 1_000_000;
 
@@ -56,8 +69,14 @@ impl State {
         (number, out)
     }
 
+    fn cells(&self) -> impl Iterator<Item = &f32> {
+        self.gx.iter().chain(&self.gy)
+    }
+
+    /// A refused call leaves each cell bit for bit; after another all NaNs count as one.
     fn left(&self, number: u32) -> Left {
-        (number, self.origin, self.side, self.gx.iter().chain(&self.gy).copied().collect())
+        let bits = |x: &f32| Bits(if number == 0 && x.is_nan() { f32::NAN.to_bits() } else { x.to_bits() });
+        (number, self.origin, self.side, self.cells().map(bits).collect())
     }
 
     fn original(&self) -> PixelGradients {
@@ -81,7 +100,9 @@ impl State {
         };
         for _ in 0..random.below(3) {
             let at = random.below(state.side.clamp(1, 32).pow(2) as u64) as usize;
-            let wild = random.pick(&[f32::INFINITY, f32::NEG_INFINITY, f32::NAN, f32::MAX, f32::from_bits(0x7f80_0001), -0.0]);
+            // a NaN of either sign, quiet or not, with any payload
+            let nan = f32::from_bits(random.bits() as u32 | 0x7f80_0001);
+            let wild = random.pick(&[f32::INFINITY, f32::NEG_INFINITY, nan, nan, f32::MAX, -0.0]);
             if random.below(2) == 0 {
                 state.gx[at] = wild;
             } else {
@@ -200,6 +221,12 @@ fn compare(run: &mut Run) {
         *numbers.entry((what, number)).or_default() += 1;
         number
     };
+    // refused calls that leave a NaN of either sign, with a payload or signalling
+    let mut kept = [0; 2];
+    let mut keep = |state: &State| {
+        let odd = |x: &&f32| x.is_nan() && x.to_bits() & 0x7fff_ffff != f32::NAN.to_bits();
+        (0..2).for_each(|k| kept[k] += u64::from(state.cells().filter(odd).any(|x| x.is_sign_negative() == (k == 1))));
+    };
 
     let mut random = run.random("reset");
     let calls = repeat_with(|| Call(State::any(&mut random), ([coordinate(&mut random), coordinate(&mut random)], side(&mut random))));
@@ -217,7 +244,10 @@ fn compare(run: &mut Run) {
                 fresh.reset(*origin, *side);
                 State::of(&fresh).left(0)
             }
-            number => state.left(number),
+            number => {
+                keep(state);
+                state.left(number)
+            }
         },
     );
 
@@ -243,6 +273,7 @@ fn compare(run: &mut Run) {
                 number => number,
             };
             if met("add", number) != 0 {
+                keep(state);
                 return state.left(number);
             }
             let mut sums = state.original();
@@ -277,6 +308,8 @@ fn compare(run: &mut Run) {
     for ((what, number), n) in numbers {
         run.count(&format!("{what} answered {number}"), n);
     }
+    run.count("refused calls that leave a positive NaN other than 7fc00000", kept[0]);
+    run.count("refused calls that leave a negative NaN other than ffc00000", kept[1]);
 }
 
 /// The calls of a list, and what the original answers, with document 01's numbers.
@@ -286,6 +319,13 @@ struct Replay {
 }
 
 impl Replay {
+    /// A state that no call made.
+    fn set(&mut self, origin: [i32; 2], side: usize) {
+        (self.sums.origin, self.sums.side) = (origin, side);
+        let [x, y] = origin.map(stored::signed);
+        self.lines.put('s', &[x, y, side as u64]);
+    }
+
     fn reset(&mut self, origin: [i32; 2], side: usize) {
         let number = refusal(origin, side);
         if number == 0 {
@@ -297,10 +337,10 @@ impl Replay {
 
     fn add(&mut self, at: [i32; 2], v: [f32; 2]) {
         let place = |k: usize| (0..self.sums.side as i64).contains(&(i64::from(at[k]) - i64::from(self.sums.origin[k])));
-        let number = match (v.iter().all(|v| v.is_finite()), place(0) && place(1)) {
-            (false, _) => 12,
-            (true, false) => 11,
-            (true, true) => 0,
+        let number = match refusal(self.sums.origin, self.sums.side) {
+            0 if !v.iter().all(|v| v.is_finite()) => 12,
+            0 if !(place(0) && place(1)) => 11,
+            number => number,
         };
         if number == 0 {
             self.sums.add(at[0], at[1], v);
@@ -310,12 +350,15 @@ impl Replay {
     }
 
     fn covariance(&mut self) {
-        let (number, c) = self.sums.covariance().map_or((13, [0.0; 3]), |c| (0, [c.xx, c.xy, c.yy]));
+        let (number, c) = match refusal(self.sums.origin, self.sums.side) {
+            0 => self.sums.covariance().map_or((13, [0.0; 3]), |c| (0, [c.xx, c.xy, c.yy])),
+            number => (number, [0.0; 3]),
+        };
         self.lines.call('c', &[], &format!("covariance {number}{}", stored::shown(&c)));
     }
 }
 
-/// Each twin, then seeded supports, of which some are refused, with adds of which some are.
+/// Each twin, then seeded supports, of which some are refused, with adds of which some are, then states that are refused.
 fn store() -> Stored {
     let mut replay = Replay { sums: PixelGradients::default(), lines: Lines::new(4) };
     replay.covariance();
@@ -336,6 +379,26 @@ fn store() -> Stored {
         }
         replay.covariance();
     }
+    replay.reset([5, -5], 2);
+    replay.add([5, -5], [1.0, 2.0]);
+    replay.add([6, -4], [2.0, 1.0]);
+    replay.covariance();
+    for (origin, side) in [
+        ([REACH + 1, 0], 2),
+        ([0, REACH + 1], 2),
+        ([-REACH - 1, 0], 2),
+        ([0, -REACH - 1], 33),
+        ([REACH, -REACH], 33),
+        ([0, 0], usize::MAX),
+    ] {
+        replay.set(origin, side);
+        replay.add(origin, [1.0, 1.0]);
+        replay.add(origin, [f32::NAN, 1.0]);
+        replay.covariance();
+    }
+    // as before
+    replay.set([5, -5], 2);
+    replay.covariance();
     replay.lines.stored()
 }
 

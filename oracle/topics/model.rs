@@ -236,6 +236,17 @@ fn their_level(level: &Level, figure: fn(&CovarianceModel, f32) -> PositionCovar
     if ranged { (0, floats(figure(&level_model(level), *sigma))) } else { (12, [0.0; 3]) }
 }
 
+/// One knot.
+fn single(width: f32, gain: f32, residual: f32, floor: f32) -> Knots {
+    let first = |x| std::array::from_fn(|k| if k == 0 { x } else { 0.0 });
+    Knots { widths: first(width), gains: first(gain), residuals: first(residual), count: 1, floor }
+}
+
+/// An estimate that is 13: its gain is too small for its offset.
+fn overflowing() -> Estimate {
+    (single(1.0, 1e-20, 0.0, 0.0), [0.0; 3], [1.0, 0.0], None, 1.0)
+}
+
 fn compare(run: &mut Run) {
     let mut numbers: BTreeMap<(&str, u32), u64> = BTreeMap::new();
     let mut met = |what, number| *numbers.entry((what, number)).or_default() += 1;
@@ -266,14 +277,7 @@ fn compare(run: &mut Run) {
         let grid = if random.below(16) == 0 { random.f32() } else { ranged(&mut random, 1000.0).abs() };
         (knots, covariance(&mut random, 1e6), offset, width, grid)
     });
-    let known: [Estimate; 1] = [(
-        Knots { widths: [1.0; 16], gains: [1e-20; 16], residuals: [0.0; 16], count: 1, floor: 0.0 },
-        [0.0; 3],
-        [1.0, 0.0],
-        None,
-        1.0,
-    )];
-    run.same("model", run.once(known.into_iter()).chain(estimates.take(run.size(500_000) as usize)), ours_model, |estimate| {
+    run.same("model", run.once([overflowing()].into_iter()).chain(estimates.take(run.size(500_000) as usize)), ours_model, |estimate| {
         let answer = their_model(estimate);
         met("model", answer.0);
         answer
@@ -334,7 +338,7 @@ fn call_level(lines: &mut Lines, letter: char, name: &str, level: &Level, figure
     lines.call(letter, &given, &format!("{name} {number}{}", stored::shown(&figures)));
 }
 
-/// Each twin, then seeded knots with widths and estimates, and seeded levels.
+/// Each twin, then seeded knots with widths and estimates, seeded levels, and the limits: each number at its limit and next beyond.
 fn store() -> Stored {
     let mut lines = Lines::new(9);
     for twin in ["knots", "model", "total"].into_iter().flat_map(twins::twins) {
@@ -372,6 +376,42 @@ fn store() -> Stored {
         call_level(&mut lines, 'n', "noise_at", &level, CovarianceModel::noise_at);
         call_level(&mut lines, 't', "total", &level, CovarianceModel::total);
     }
+    let beyond = 1000.0_f32.next_up();
+    for knots in [
+        single(1000.0, -1000.0, 1000.0, 1000.0),
+        single(-1000.0, 1000.0, -1000.0, -0.0),
+        single(beyond, 0.5, 0.25, 0.0),
+        single(-beyond, 0.5, 0.25, 0.0),
+        single(f32::NAN, 0.5, 0.25, 0.0),
+        single(1.0, beyond, 0.25, 0.0),
+        single(1.0, -beyond, 0.25, 0.0),
+        single(1.0, 0.5, beyond, 0.0),
+        single(1.0, 0.5, -beyond, 0.0),
+        single(1.0, 0.5, 0.25, beyond),
+        single(1.0, 0.5, 0.25, -f32::from_bits(1)),
+        single(1.0, 0.5, 0.25, f32::NAN),
+    ] {
+        put_knots(&mut lines, &knots);
+        call_at(&mut lines, &(knots.clone(), Some(1.0)));
+        call_model(&mut lines, &(knots, [1.0, 0.5, 1.0], [0.25, 0.5], Some(1.0), 1.0));
+    }
+    let knots = single(1.0, 0.5, 0.25, 0.0);
+    put_knots(&mut lines, &knots);
+    let million = 1e6_f32.next_up();
+    for (noise, offset, grid) in [
+        ([1e6, -1e6, 1e6], [1000.0, -1000.0], 1000.0),
+        ([million, 0.0, 1.0], [0.25, 0.5], 1.0),
+        ([1.0, -million, 1.0], [0.25, 0.5], 1.0),
+        ([1.0, 0.5, 1.0], [beyond, 0.5], 1.0),
+        ([1.0, 0.5, 1.0], [0.25, -beyond], 1.0),
+        ([1.0, 0.5, 1.0], [0.25, 0.5], beyond),
+        ([1.0, 0.5, 1.0], [0.25, 0.5], -f32::from_bits(1)),
+    ] {
+        call_model(&mut lines, &(knots.clone(), noise, offset, Some(1.0), grid));
+    }
+    let estimate = overflowing();
+    put_knots(&mut lines, &estimate.0);
+    call_model(&mut lines, &estimate);
     lines.stored()
 }
 

@@ -39,7 +39,7 @@ pub places : placesOf 9 7 16 ≡ at 0 0 ∷ at 2 0 ∷ at 4 0 ∷ at 1 2 ∷ at 
 unfolding placesOf stepOf
 places = refl
 
--- 16,056 by 25 has the most windows of all first passes, 15,887 by 132 of all second ones
+-- 16,056 by 25 at the first W; 15,887 by 132 at both, of which the second's T is M
 pub widest-step : stepOf (16056 * 25) firstW ≡ 7
 unfolding stepOf
 widest-step = refl

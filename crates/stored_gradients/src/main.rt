@@ -6,8 +6,8 @@ use libc::STDOUT_FILENO;
 
 const COLUMNS: u8 = 4;
 
-// The call of line i, on a state that is carried from line to line: r resets it to an origin and a side, a adds at a pixel, c asks
-// for the covariance.
+// The call of line i, on a state that is carried from line to line: s sets its origin and side without a call, r resets it to an
+// origin and a side, a adds at a pixel, c asks for the covariance.
 fn call(
     text: &[u8],
     i: usize,
@@ -19,6 +19,11 @@ fn call(
     let letter = stored::letter(text, COLUMNS, i);
     let x = stored::int_in(text, COLUMNS, i, 0);
     let y = stored::int_in(text, COLUMNS, i, 1);
+    if letter == b's' {
+        *origin = [x, y];
+        *side = stored::number(text, COLUMNS, i, 2) as usize;
+        return;
+    }
     if letter == b'r' {
         let n = stored::number(text, COLUMNS, i, 2) as usize;
         let number = pixel_gradients::vuzgari_compare_reset(origin, side, gx, gy, x, y, n);
