@@ -27,7 +27,7 @@ use Rattle.rounds.specs.declared.Settled.{Settled}
 use Rattle.rounds.specs.declared.Found.{Found}
 use Rattle.rounds.specs.declared.Found.the-variants.{Variance, Missing}
 use Rattle.joining.specs.Numbers.{operatorGain}
-use Rattle.joining.specs.Joining.{variances, median, outlierLimit, withBand, withFound, joinFrom, joined, minSamples, deviation, decided, sigmaOf, bandAt, founds, noiseUnder, noise}
+use Rattle.joining.specs.Joining.{variances, median, outlierLimit, withBand, withFound, joinFrom, joinedBands, minSamples, deviation, sigmaOfTotal, sigmaOf, bandAt, founds, noiseUnder, noise}
 use Rattle.joining.specs.declared.Sigma.the-variants.{Figure, Number}
 use Rattle.joining.specs.declared.Noise.{Noise}
 use Rattle.bounds.specs.Sigma.{sigmaMost}
@@ -95,8 +95,8 @@ module _ (N : ℕ) (small : N ≤ 2 ^ 28) where
   unfolding fits
   number-bounded n = record { bounded = plus-zero-bounded sigmaMost; fits = tt }
 
-  decided-bounded : (k : Total) → Joined N 4 k → SigmaBounded (decided k)
-  unfolding decided
+  decided-bounded : (k : Total) → Joined N 4 k → SigmaBounded (sigmaOfTotal k)
+  unfolding sigmaOfTotal
   decided-bounded k J = go (ltb (k .n) minSamples) refl
     where
       go : (b : Bool) → ltb (k .n) minSamples ≡ b → SigmaBounded (cond b (Number 7) (Figure (deviation k)))
@@ -104,10 +104,10 @@ module _ (N : ℕ) (small : N ≤ 2 ^ 28) where
       go false e = record { bounded = deviation-bounded k (omega (arith, ltb-false (k .n) minSamples e)) J; fits = deviation-fits k }
 
   sigma-bounded : (bands : List Found) → length bands ≤ 4 → Each (FoundBounded N) bands → SigmaBounded (sigmaOf bands)
-  unfolding sigmaOf joined
+  unfolding sigmaOf joinedBands
   sigma-bounded bands h a =
-      cond-both SigmaBounded (eqb (length (variances bands)) 0) (Number 6) (decided (joined bands)) (number-bounded 6)
-      (decided-bounded (joined bands) (join-from N small (outlierLimit (median (variances bands))) 0 noTotal bands (omega arith) (record { few = omega arith; sum = plus-zero-bounded (0 * varianceMost) }) a))
+      cond-both SigmaBounded (eqb (length (variances bands)) 0) (Number 6) (sigmaOfTotal (joinedBands bands)) (number-bounded 6)
+      (decided-bounded (joinedBands bands) (join-from N small (outlierLimit (median (variances bands))) 0 noTotal bands (omega arith) (record { few = omega arith; sum = plus-zero-bounded (0 * varianceMost) }) a))
 
 -- ---- sigma of a list of gates and one of bounded outputs, wherever the bands start
 module _ (g o : List Float) (starts : List ℕ) (small : length g ≤ 2 ^ 28) (h : Each OutputBounded o) where

@@ -25,7 +25,7 @@ use Rattle.sums.specs.Start.{start}
 use Rattle.sums.specs.declared.Total.{Total}
 use Rattle.sums.proofs.Sums.{admitted-few}
 use Rattle.rounds.specs.Numbers.{maxBandRatio, truncSecondMoment}
-use Rattle.rounds.specs.Rounds.{next, near, settledAt, roundOf, oneRound, roundsFrom, maxRounds, startAt, settle, bandTotal, minBandSamples, judged, bandBy, bandVariance}
+use Rattle.rounds.specs.Rounds.{next, near, settledAt, roundOf, oneRound, roundsFrom, maxRounds, startAt, settle, bandTotal, minBandSamples, judgedBand, bandBy, bandVariance}
 use Rattle.rounds.specs.declared.Settled.{Settled}
 use Rattle.rounds.specs.declared.Found.the-variants.{Variance, Missing}
 use Rattle.rounds.specs.declared.BandVariance.{BandVariance}
@@ -89,8 +89,8 @@ module _ (f : Float → Total) (fine : (v : Float) → Summed (f v)) where
   settle-rests var = rounds-rest maxRounds (startAt var) (inr (omega (arith, max-rounds-is)))
 
 -- ---- a band
-judged-bounded : (s : Settled) (image : Float) (N : ℕ) → s .n ≤ N → Rests s → FoundBounded N (judged s image)
-unfolding judged
+judged-bounded : (s : Settled) (image : Float) (N : ℕ) → s .n ≤ N → Rests s → FoundBounded N (judgedBand s image)
+unfolding judgedBand
 judged-bounded s image N few h = go (leb minBandSamples (s .n)) (not (lt (mul binary64 maxBandRatio (larger image roundingOpVar)) (s .var))) refl
   where
     go : (a b : Bool) → leb minBandSamples (s .n) ≡ a → FoundBounded N (cond (a && b) (Variance (s .n) (s .var)) Missing)

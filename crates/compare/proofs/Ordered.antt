@@ -5,9 +5,9 @@ use native.Mathlib.Omega.{arith}
 use lib.ListN.{getD}
 use lib.Ieee.{Float}
 use Rattle.rounds.specs.Rounds.{Bands}
-use Rattle.compare.specs.Bands.{InOrder, starts}
+use Rattle.compare.specs.Bands.{BandsInOrder, starts}
 
-pub in-bands : {g o : List Float} {e1 e2 e3 : ℕ} → InOrder g o e1 e2 e3 → Bands g o (starts g e1 e2 e3)
+pub in-bands : {g o : List Float} {e1 e2 e3 : ℕ} → BandsInOrder g o e1 e2 e3 → Bands g o (starts g e1 e2 e3)
 in-bands {g} {o} {e1} {e2} {e3} h = record { same = h .same; rise = rise; last = omega arith }
   where
     rise : (b : ℕ) → b < 4 → getD (starts g e1 e2 e3) b 0 ≤ getD (starts g e1 e2 e3) (b + 1) 0

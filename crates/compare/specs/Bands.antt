@@ -8,7 +8,7 @@ use lib.Ieee.{Float}
 abbrev pub starts : List Float → ℕ → ℕ → ℕ → List ℕ
 starts g e1 e2 e3 = 0 ∷ e1 ∷ e2 ∷ e3 ∷ length g ∷ []
 
-pub record InOrder (g o : List Float) (e1 e2 e3 : ℕ) : Type 0 where
+pub record BandsInOrder (g o : List Float) (e1 e2 e3 : ℕ) : Type 0 where
   pub same : length g ≡ length o
   pub first : e1 ≤ e2
   pub second : e2 ≤ e3

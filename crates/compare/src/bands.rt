@@ -8,7 +8,7 @@ ghost use Rattle.sums.specs.Start.{meanQuiet};
 ghost use Rattle.rounds.specs.Rounds.{bandVariance, imageVariance};
 ghost use Rattle.joining.specs.Joining.{varianceOf, noise, numberOf, figureOf};
 ghost use Rattle.joining.specs.Windows.{windowsOf};
-ghost use Rattle.compare.specs.Bands.{InOrder, starts};
+ghost use Rattle.compare.specs.Bands.{BandsInOrder, starts};
 use joining::Sigma;
 use rounds::Found;
 
@@ -100,7 +100,7 @@ pub extern "C" fn vuzgari_compare_image_variance(
     e2: usize,
     e3: usize,
 ) -> f64
-    requires { ⌜ InOrder (now gate) (now op) e1 e2 e3 ⌝ }
+    requires { ⌜ BandsInOrder (now gate) (now op) e1 e2 e3 ⌝ }
     ensures { λ r. ⌜ r ≡ imageVariance (now (gate .entry)) (now (op .entry)) (starts (now (gate .entry)) e1 e2 e3) .var ⌝ }
 {
     let starts = [0, e1, e2, e3, gate.len()];
@@ -116,7 +116,7 @@ pub extern "C" fn vuzgari_compare_image_rounds(
     e2: usize,
     e3: usize,
 ) -> usize
-    requires { ⌜ InOrder (now gate) (now op) e1 e2 e3 ⌝ }
+    requires { ⌜ BandsInOrder (now gate) (now op) e1 e2 e3 ⌝ }
     ensures { λ r. ⌜ r ≡ imageVariance (now (gate .entry)) (now (op .entry)) (starts (now (gate .entry)) e1 e2 e3) .rounds ⌝ }
 {
     let starts = [0, e1, e2, e3, gate.len()];
@@ -132,7 +132,7 @@ pub extern "C" fn vuzgari_compare_noise_number(
     e2: usize,
     e3: usize,
 ) -> u32
-    requires { ⌜ InOrder (now gate) (now op) e1 e2 e3 ⌝ }
+    requires { ⌜ BandsInOrder (now gate) (now op) e1 e2 e3 ⌝ }
     ensures { λ r. ⌜ r ≡ numberOf (noise (now (gate .entry)) (now (op .entry)) (starts (now (gate .entry)) e1 e2 e3) .sigma) ⌝ }
 {
     let starts = [0, e1, e2, e3, gate.len()];
@@ -152,7 +152,7 @@ pub extern "C" fn vuzgari_compare_noise_sigma(
     e2: usize,
     e3: usize,
 ) -> f32
-    requires { ⌜ InOrder (now gate) (now op) e1 e2 e3 ⌝ }
+    requires { ⌜ BandsInOrder (now gate) (now op) e1 e2 e3 ⌝ }
     ensures { λ r. ⌜ r ≡ figureOf (noise (now (gate .entry)) (now (op .entry)) (starts (now (gate .entry)) e1 e2 e3) .sigma) ⌝ }
 {
     let starts = [0, e1, e2, e3, gate.len()];
@@ -172,7 +172,7 @@ pub extern "C" fn vuzgari_compare_noise_rounds(
     e2: usize,
     e3: usize,
 ) -> usize
-    requires { ⌜ InOrder (now gate) (now op) e1 e2 e3 ⌝ }
+    requires { ⌜ BandsInOrder (now gate) (now op) e1 e2 e3 ⌝ }
     ensures { λ r. ⌜ r ≡ noise (now (gate .entry)) (now (op .entry)) (starts (now (gate .entry)) e1 e2 e3) .rounds ⌝ }
 {
     let starts = [0, e1, e2, e3, gate.len()];

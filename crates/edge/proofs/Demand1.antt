@@ -13,7 +13,7 @@ use Rattle.limits.specs.Limits.{tooLarge, otherLength, farPlace}
 use Rattle.tile.specs.declared.EdgeWidth.{EdgeWidth}
 use Rattle.tile.specs.declared.EdgeWidth.the-variants.{Width, Refused}
 use Rattle.tile.specs.Refusal.{refusal}
-use Rattle.tile.specs.Width.{widthOf}
+use Rattle.tile.specs.Width.{edgeWidthOf}
 use Rattle.edge.specs.Edge.{edge}
 use Rattle.edge.specs.Demand1.{Demand1, high, low, gradient, EdgeMeets}
 
@@ -97,7 +97,7 @@ module _ (l : List ℕ) (w h : ℕ) (origin centre : List ℤ) where
   in-order =
       ordered (tooLarge w h) (otherLength (length l) w h) (farPlace centre || farPlace origin)
       (lt (f32Of 0) (gradient l w h origin centre))
-      (widthOf (high l w h origin centre) (low l w h origin centre) (gradient l w h origin centre))
+      (edgeWidthOf (high l w h origin centre) (low l w h origin centre) (gradient l w h origin centre))
 
   edge-ordered : in-order ≡ edge l w h origin centre
   unfolding edge refusal

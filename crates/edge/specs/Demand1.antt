@@ -16,7 +16,7 @@ use Rattle.disk.specs.Gradients.{values, gradients}
 use Rattle.tile.specs.declared.EdgeWidth.{EdgeWidth}
 use Rattle.tile.specs.declared.EdgeWidth.the-variants.{Width, Refused}
 use Rattle.tile.specs.Tile.{tile}
-use Rattle.tile.specs.Width.{widthOf}
+use Rattle.tile.specs.Width.{edgeWidthOf}
 use Rattle.edge.specs.Edge.{edge}
 
 -- by the causes: a side above 16,384, another number of pixels, a centre or an origin far off, a gradient mean above zero
@@ -45,5 +45,5 @@ abbrev pub EdgeMeets : List ℕ → ℕ → ℕ → List ℤ → List ℤ → Ty
 EdgeMeets l w h origin centre =
     Demand1 (tooLarge w h) (otherLength (length l) w h) (farPlace centre || farPlace origin)
     (lt (f32Of 0) (gradient l w h origin centre))
-    (widthOf (high l w h origin centre) (low l w h origin centre) (gradient l w h origin centre))
+    (edgeWidthOf (high l w h origin centre) (low l w h origin centre) (gradient l w h origin centre))
     (edge l w h origin centre)

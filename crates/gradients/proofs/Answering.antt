@@ -19,7 +19,7 @@ use Rattle.refine.specs.declared.Judged.the-variants.{Covariance, Refused}
 use Rattle.refine.proofs.Refusing.{Says, plainly, unless, above, its-own, otherwise, another, neither}
 use Rattle.support.specs.Support.{afterState, stateNumber}
 use Rattle.gradients.specs.declared.PixelGradients.{PixelGradients}
-use Rattle.gradients.specs.Gradients.{handed, cleared, resetOf, inSupport, cell, bothFinite, addNumber, added, addOf, supportGram, covarianceOf}
+use Rattle.gradients.specs.Gradients.{handed, clearedState, resetOf, inSupport, cell, bothFinite, addNumber, added, addOf, supportGram, covarianceOf}
 use Rattle.gradients.specs.Answers.{Taken, ResetAnswers, AddAnswers, CovarianceAnswers}
 
 -- what is handed back under a number
@@ -39,8 +39,8 @@ reset-answers s o side = record {
   is-10 = another near (λ q. omega arith) (its-own (above 32 side) (λ q. omega arith));
   is-0 = another near (λ q. omega arith) (otherwise (above 32 side) (λ q. omega arith));
   no-other = cond-both (OneOf all) (farPlace o) 8 _ (inl refl) (cond-both (OneOf all) (ltb 32 side) 10 0 (inr (inl refl)) (inr (inr (inl refl))));
-  refused = old-back (stateNumber o side) s (cleared o side);
-  done = new-back (stateNumber o side) s (cleared o side);
+  refused = old-back (stateNumber o side) s (clearedState o side);
+  done = new-back (stateNumber o side) s (clearedState o side);
 }
   where
     near : Says (farPlace o) (farPlace o ≡ true) (farPlace o ≡ false)

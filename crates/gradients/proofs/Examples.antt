@@ -15,10 +15,10 @@ use Rattle.support.specs.Support.{afterState}
 use Rattle.gram.specs.Gram.{productSum}
 use Rattle.gradients.specs.declared.PixelGradients.{PixelGradients}
 use Rattle.gradients.specs.declared.Handed.{Handed}
-use Rattle.gradients.specs.Gradients.{cleared, cell, inSupport, addNumber, addOf, covarianceOf}
+use Rattle.gradients.specs.Gradients.{clearedState, cell, inSupport, addNumber, addOf, covarianceOf}
 
 abbrev three : PixelGradients
-three = cleared (pos 5 ∷ negsuc 6 ∷ []) 3
+three = clearedState (pos 5 ∷ negsuc 6 ∷ []) 3
 
 -- rows first: (7, -7) is cell 2, (5, -6) is cell 3, (7, -6) is cell 5
 pub cells : cell three (pos 5) (negsuc 6) ∷ cell three (pos 7) (negsuc 6) ∷ cell three (pos 5) (negsuc 5) ∷ cell three (pos 7) (negsuc 5) ∷ cell three (pos 7) (negsuc 4) ∷ []

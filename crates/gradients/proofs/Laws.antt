@@ -18,7 +18,7 @@ use Rattle.ieee.specs.Numbers.{plusZero}
 use Rattle.gram.specs.Gram.{gram}
 use Rattle.gram.proofs.Laws.{Zeros, gram-zero}
 use Rattle.gradients.specs.declared.PixelGradients.{PixelGradients}
-use Rattle.gradients.specs.Gradients.{cleared, addAt, covarianceOf}
+use Rattle.gradients.specs.Gradients.{clearedState, addAt, covarianceOf}
 use Rattle.gradients.proofs.Refusals.{covariance-0}
 
 -- ---- an addition changes its own cell, and no other
@@ -33,10 +33,10 @@ module _ (l : List Float) (k : ℕ) (x : Float) where
 -- ---- a reset clears every cell, those past the side too
 
 module _ (o : List ℤ) (side k : ℕ) (h : k < 1024) where
-  pub cleared-gx : getD (cleared o side .gx) k nan ≡ plusZero
+  pub cleared-gx : getD (clearedState o side .gx) k nan ≡ plusZero
   cleared-gx = getD-replicate 1024 k plusZero nan h
 
-  pub cleared-gy : getD (cleared o side .gy) k nan ≡ plusZero
+  pub cleared-gy : getD (clearedState o side .gy) k nan ≡ plusZero
   cleared-gy = getD-replicate 1024 k plusZero nan h
 
 -- ---- the support's sum
@@ -48,8 +48,8 @@ cleared-cells n h i l = getD-take n (replicate 1024 plusZero) i nan low ∙ getD
     low = omega (arith, taken-long n (replicate 1024 plusZero) h refl)
 
 -- a support that is reset and to which nothing is added sums to zeros
-pub reset-zeros : (o : List ℤ) (side : ℕ) → 0 ≡ stateNumber o side → covarianceOf (cleared o side) ≡ Covariance zeros
-reset-zeros o side e = sym (covariance-0 (cleared o side) e) ∙ gram-zero _ _ cells cells refl
+pub reset-zeros : (o : List ℤ) (side : ℕ) → 0 ≡ stateNumber o side → covarianceOf (clearedState o side) ≡ Covariance zeros
+reset-zeros o side e = sym (covariance-0 (clearedState o side) e) ∙ gram-zero _ _ cells cells refl
   where
     cells : Zeros (take (side * side) (replicate 1024 plusZero))
     cells = cleared-cells (side * side) (few-cells side (small o side (sym e)))

@@ -13,7 +13,7 @@ use Rattle.refine.specs.Numbers.{OneOf}
 use Rattle.refine.specs.declared.Judged.{Judged}
 use Rattle.gradients.specs.declared.PixelGradients.{PixelGradients}
 use Rattle.gradients.specs.declared.Handed.{Handed}
-use Rattle.gradients.specs.Gradients.{cleared, inSupport, cell, bothFinite, added, supportGram}
+use Rattle.gradients.specs.Gradients.{clearedState, inSupport, cell, bothFinite, added, supportGram}
 
 -- neither 8 nor 10 refuses the state
 abbrev pub Taken : PixelGradients → Type 0
@@ -26,7 +26,7 @@ pub record ResetAnswers (s : PixelGradients) (o : List ℤ) (side : ℕ) (h : Ha
   pub is-0 : (h .number ≡ 0) ↔ ((farPlace o ≡ false) × (side ≤ 32))
   pub no-other : OneOf (8 ∷ 10 ∷ 0 ∷ []) (h .number)
   pub refused : (h .number ≡ 0 → ⊥) → h .state ≡ s
-  pub done : h .number ≡ 0 → h .state ≡ cleared o side
+  pub done : h .number ≡ 0 → h .state ≡ clearedState o side
 
 -- `add`: 8, 10 of the state, 12, 11
 pub record AddAnswers (s : PixelGradients) (x y : ℤ) (v : List Float) (h : Handed) : Type 0 where

@@ -19,11 +19,11 @@ use Rattle.support.specs.Support.{afterState, stateNumber, inSide}
 use Rattle.gram.specs.Gram.{gram}
 
 -- every cell zero, those past the side too
-abbrev pub cleared : List ℤ → ℕ → PixelGradients
-cleared o side = record { origin = o; side = side; gx = replicate 1024 plusZero; gy = replicate 1024 plusZero }
+abbrev pub clearedState : List ℤ → ℕ → PixelGradients
+clearedState o side = record { origin = o; side = side; gx = replicate 1024 plusZero; gy = replicate 1024 plusZero }
 
 abbrev pub empty : PixelGradients
-empty = cleared (pos 0 ∷ pos 0 ∷ []) 0
+empty = clearedState (pos 0 ∷ pos 0 ∷ []) 0
 
 -- the new state under the number 0, the old one under any other
 unfoldable pub handed : ℕ → PixelGradients → PixelGradients → Handed
@@ -32,7 +32,7 @@ handed n old new = record { number = n; state = cond (eqb n 0) new old }
 -- 8, 10 of the new origin and side only
 unfoldable pub resetOf : PixelGradients → List ℤ → ℕ → Handed
 unfolding handed
-resetOf s o side = handed (stateNumber o side) s (cleared o side)
+resetOf s o side = handed (stateNumber o side) s (clearedState o side)
 
 -- ---- one pixel
 

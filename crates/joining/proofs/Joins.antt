@@ -14,12 +14,12 @@ use Rattle.laws.proofs.Choice.{chosen, passed, cond-both}
 use Rattle.quantile.specs.Rising.{at, rising}
 use Rattle.quantile.proofs.Inserting.{rising-same}
 use Rattle.ieee.specs.Numbers.{f64Of}
-use Rattle.sums.specs.Admitted.{totalOf, noTotal}
+use Rattle.sums.specs.Admitted.{totalWith, noTotal}
 use Rattle.sums.specs.declared.Total.{Total}
 use Rattle.rounds.specs.declared.Found.{Found}
 use Rattle.rounds.specs.declared.Found.the-variants.{Variance, Missing}
 use Rattle.joining.specs.Numbers.{half}
-use Rattle.joining.specs.Joining.{varianceOf, variances, medianIn, median, outlierLimit, withBand, withFound, joinFrom, joined, minSamples, deviation, decided, sigmaOf}
+use Rattle.joining.specs.Joining.{varianceOf, variances, medianIn, median, outlierLimit, withBand, withFound, joinFrom, joinedBands, minSamples, deviation, sigmaOfTotal, sigmaOf}
 use Rattle.joining.specs.Windows.{windowsOf, windowsIn}
 use Rattle.joining.specs.declared.Sigma.{Sigma}
 use Rattle.joining.specs.declared.Sigma.the-variants.{Figure, Number}
@@ -94,9 +94,9 @@ module _ (vars : List Float) (n : ℕ) (long : length vars ≡ 4) (h : n ≤ 4) 
 
 module _ (limit : Float) (k : Total) (f : Found) where
   pub band-in : (n : ℕ) (var : Float) → f ≡ Variance n var → le var limit ≡ true → {w : Float} → w ≡ f64Of n
-      → totalOf (k .n + n) (add binary64 (k .sum) (mul binary64 w var)) ≡ withFound limit k f
+      → totalWith (k .n + n) (add binary64 (k .sum) (mul binary64 w var)) ≡ withFound limit k f
   band-in n var e t q =
-      ap (λ (x : Float). totalOf (k .n + n) (add binary64 (k .sum) (mul binary64 x var))) q ∙ chosen (le var limit) (withBand k n var) k t
+      ap (λ (x : Float). totalWith (k .n + n) (add binary64 (k .sum) (mul binary64 x var))) q ∙ chosen (le var limit) (withBand k n var) k t
       ∙ sym (ap (withFound limit k) e)
 
   pub band-out : (n : ℕ) (var : Float) → f ≡ Variance n var → le var limit ≡ false → k ≡ withFound limit k f
@@ -139,12 +139,12 @@ module _ {limit : Float} {bands : List Found} {k : Total} {b : ℕ} (j : Joining
 
 -- ---- the answer
 
-pub decided-thin : (k : Total) → k .n < minSamples → Number 7 ≡ decided k
-unfolding decided
+pub decided-thin : (k : Total) → k .n < minSamples → Number 7 ≡ sigmaOfTotal k
+unfolding sigmaOfTotal
 decided-thin k h = chosen (ltb (k .n) minSamples) (Number 7) (Figure (deviation k)) (lt-ltb (k .n) minSamples h)
 
-pub decided-is : (k : Total) → minSamples ≤ k .n → {s : Float} → s ≡ deviation k → Figure s ≡ decided k
-unfolding decided
+pub decided-is : (k : Total) → minSamples ≤ k .n → {s : Float} → s ≡ deviation k → Figure s ≡ sigmaOfTotal k
+unfolding sigmaOfTotal
 decided-is k h e = ap Figure e ∙ passed (ltb (k .n) minSamples) (Number 7) (Figure (deviation k)) (le-ltb (k .n) minSamples h)
 
 module _ (bands : List Found) (vars : List Float) (n : ℕ) (e : take n vars ≡ variances bands) (g : n ≤ 4) (h : length vars ≡ 4) where
@@ -153,11 +153,11 @@ module _ (bands : List Found) (vars : List Float) (n : ℕ) (e : take n vars ≡
 
   pub sigma-none : n ≡ 0 → Number 6 ≡ sigmaOf bands
   unfolding sigmaOf
-  sigma-none z = chosen (eqb (length (variances bands)) 0) (Number 6) (decided (joined bands)) (eq-eqb (length (variances bands)) 0 (length-is ∙ z))
+  sigma-none z = chosen (eqb (length (variances bands)) 0) (Number 6) (sigmaOfTotal (joinedBands bands)) (eq-eqb (length (variances bands)) 0 (length-is ∙ z))
 
   pub sigma-is : (n ≡ 0 → ⊥) → {m : Float} → m ≡ median (take n vars) → {limit : Float} → limit ≡ outlierLimit m → {k : Total} → k ≡ joinFrom limit noTotal bands
-      → {s : Sigma} → s ≡ decided k → s ≡ sigmaOf bands
-  unfolding sigmaOf joined
+      → {s : Sigma} → s ≡ sigmaOfTotal k → s ≡ sigmaOf bands
+  unfolding sigmaOf joinedBands
   sigma-is z {m} p {limit} q {k} r {s} t =
-      t ∙ ap decided (r ∙ ap (λ (x : Float). joinFrom x noTotal bands) (q ∙ ap outlierLimit (p ∙ ap median e)))
-      ∙ passed (eqb (length (variances bands)) 0) (Number 6) (decided (joined bands)) (ne-eqb (length (variances bands)) 0 (λ y. z (sym length-is ∙ y)))
+      t ∙ ap sigmaOfTotal (r ∙ ap (λ (x : Float). joinFrom x noTotal bands) (q ∙ ap outlierLimit (p ∙ ap median e)))
+      ∙ passed (eqb (length (variances bands)) 0) (Number 6) (sigmaOfTotal (joinedBands bands)) (ne-eqb (length (variances bands)) 0 (λ y. z (sym length-is ∙ y)))

@@ -16,7 +16,7 @@ use Rattle.sums.specs.declared.Total.{Total}
 use Rattle.rounds.specs.Rounds.{imageVariance, Bands}
 use Rattle.rounds.specs.declared.Found.{Found}
 use Rattle.rounds.proofs.Bounds.{image-rounds}
-use Rattle.joining.specs.Joining.{variances, median, outlierLimit, joined, minSamples, deviation, decided, sigmaOf, founds, noiseUnder, noise, numberOf, figureOf}
+use Rattle.joining.specs.Joining.{variances, median, outlierLimit, joinedBands, minSamples, deviation, sigmaOfTotal, sigmaOf, founds, noiseUnder, noise, numberOf, figureOf}
 use Rattle.joining.specs.declared.Sigma.{Sigma}
 use Rattle.joining.specs.declared.Sigma.the-variants.{Figure, Number}
 use Rattle.joining.specs.declared.Noise.{Noise}
@@ -48,25 +48,25 @@ exactly kept found held n (given a b d e) =
 
 -- ---- the number by its stages
 
-number-decided : (k : Total) → ((k .n < 512) × (numberOf (decided k) ≡ 7)) ⊎ ((512 ≤ k .n) × (numberOf (decided k) ≡ 0))
-unfolding decided
+number-decided : (k : Total) → ((k .n < 512) × (numberOf (sigmaOfTotal k) ≡ 7)) ⊎ ((512 ≤ k .n) × (numberOf (sigmaOfTotal k) ≡ 0))
+unfolding sigmaOfTotal
 number-decided k = elim (le-or-lt 512 (k .n)) [
   | inl h ↦ inr (h, ap numberOf (sym (passed (ltb (k .n) minSamples) (Number 7) (Figure (deviation k)) (le-ltb (k .n) minSamples h))))
   | inr h ↦ inl (h, ap numberOf (sym (chosen (ltb (k .n) minSamples) (Number 7) (Figure (deviation k)) (lt-ltb (k .n) minSamples h))))
 ]
 
-number-found : (bands : List Found) (kept : ℕ) → 512 ≤ kept → Reason kept (length (variances bands)) (joined bands .n) (numberOf (sigmaOf bands))
+number-found : (bands : List Found) (kept : ℕ) → 512 ≤ kept → Reason kept (length (variances bands)) (joinedBands bands .n) (numberOf (sigmaOf bands))
 unfolding sigmaOf
 number-found bands kept g = elim (le-or-lt 1 (length (variances bands))) [
-  | inl h ↦ by-join h (number-decided (joined bands)) (ap numberOf (sym (passed (eqb (length (variances bands)) 0) (Number 6) (decided (joined bands)) (ne-eqb (length (variances bands)) 0 (λ z. some h z)))))
-  | inr h ↦ none g (omega arith) (ap numberOf (sym (chosen (eqb (length (variances bands)) 0) (Number 6) (decided (joined bands)) (eq-eqb (length (variances bands)) 0 (omega arith)))))
+  | inl h ↦ by-join h (number-decided (joinedBands bands)) (ap numberOf (sym (passed (eqb (length (variances bands)) 0) (Number 6) (sigmaOfTotal (joinedBands bands)) (ne-eqb (length (variances bands)) 0 (λ z. some h z)))))
+  | inr h ↦ none g (omega arith) (ap numberOf (sym (chosen (eqb (length (variances bands)) 0) (Number 6) (sigmaOfTotal (joinedBands bands)) (eq-eqb (length (variances bands)) 0 (omega arith)))))
 ]
   where
     some : 1 ≤ length (variances bands) → length (variances bands) ≡ 0 → ⊥
     some h z = omega arith
 
-    by-join : 1 ≤ length (variances bands) → ((joined bands .n < 512) × (numberOf (decided (joined bands)) ≡ 7)) ⊎ ((512 ≤ joined bands .n) × (numberOf (decided (joined bands)) ≡ 0))
-        → numberOf (sigmaOf bands) ≡ numberOf (decided (joined bands)) → Reason kept (length (variances bands)) (joined bands .n) (numberOf (sigmaOf bands))
+    by-join : 1 ≤ length (variances bands) → ((joinedBands bands .n < 512) × (numberOf (sigmaOfTotal (joinedBands bands)) ≡ 7)) ⊎ ((512 ≤ joinedBands bands .n) × (numberOf (sigmaOfTotal (joinedBands bands)) ≡ 0))
+        → numberOf (sigmaOf bands) ≡ numberOf (sigmaOfTotal (joinedBands bands)) → Reason kept (length (variances bands)) (joinedBands bands .n) (numberOf (sigmaOf bands))
     by-join h (inl j) e = thin g h (j .0) (e ∙ j .1)
     by-join h (inr j) e = given g h (j .0) (e ∙ j .1)
 
@@ -74,21 +74,21 @@ module _ (g o : List Float) (starts : List ℕ) where
   abbrev pub bands : List Found
   bands = founds g o starts (imageVariance g o starts .var)
 
-  reason : Reason (length g) (length (variances bands)) (joined bands .n) (numberOf (noise g o starts .sigma))
+  reason : Reason (length g) (length (variances bands)) (joinedBands bands .n) (numberOf (noise g o starts .sigma))
   unfolding noise noiseUnder
   reason = elim (le-or-lt 512 (length g)) [
-    | inl h ↦ subst (λ (x : Noise). Reason (length g) (length (variances bands)) (joined bands .n) (numberOf (x .sigma)))
+    | inl h ↦ subst (λ (x : Noise). Reason (length g) (length (variances bands)) (joinedBands bands .n) (numberOf (x .sigma)))
         (passed (ltb (length g) minSamples) (record { sigma = Number 5; rounds = 0 }) (noiseUnder g o starts (imageVariance g o starts)) (le-ltb (length g) minSamples h))
         (number-found bands (length g) h)
     | inr h ↦ few h (ap (λ (x : Noise). numberOf (x .sigma)) (sym (noise-few g o starts h)))
   ]
 
-  pub number-exactly : Exactly (length g) (length (variances bands)) (joined bands .n) (numberOf (noise g o starts .sigma))
-  number-exactly = exactly (length g) (length (variances bands)) (joined bands .n) (numberOf (noise g o starts .sigma)) reason
+  pub number-exactly : Exactly (length g) (length (variances bands)) (joinedBands bands .n) (numberOf (noise g o starts .sigma))
+  number-exactly = exactly (length g) (length (variances bands)) (joinedBands bands .n) (numberOf (noise g o starts .sigma)) reason
 
   -- no more windows are joined than are kept
-  pub held-few : Bands g o starts → joined bands .n ≤ length g
-  unfolding joined
+  pub held-few : Bands g o starts → joinedBands bands .n ≤ length g
+  unfolding joinedBands
   held-few B = omega (arith, join-few (outlierLimit (median (variances bands))) noTotal bands, counts-few B (imageVariance g o starts .var))
 
   -- the rounds of the image and of four bands

@@ -10,18 +10,18 @@ use Rattle.ieee.specs.Order.{larger, magnitude, totalLess, negative}
 use Rattle.ieee.specs.Sqrt.{sqrt}
 use Rattle.laws.specs.Lists.{from}
 use Rattle.quantile.specs.Quantile.{quiet}
-use Rattle.sums.specs.Admitted.{totalOf, noTotal, threshold, cut}
+use Rattle.sums.specs.Admitted.{totalWith, noTotal, threshold, cut}
 use Rattle.sums.specs.Start.{mean, meanQuiet, start}
 use Rattle.sums.specs.declared.Total.{Total}
-use Rattle.rounds.specs.Rounds.{next, near, settledAt, oneRound, maxRounds, settle, judged, bandVariance}
+use Rattle.rounds.specs.Rounds.{next, near, settledAt, oneRound, maxRounds, settle, judgedBand, bandVariance}
 use Rattle.rounds.specs.declared.Found.{Found}
 use Rattle.rounds.specs.declared.Found.the-variants.{Variance, Missing}
-use Rattle.joining.specs.Joining.{median, outlierLimit, withBand, joined, deviation, decided, sigmaOf, noise, noiseUnder}
+use Rattle.joining.specs.Joining.{median, outlierLimit, withBand, joinedBands, deviation, sigmaOfTotal, sigmaOf, noise, noiseUnder}
 use Rattle.joining.specs.declared.Sigma.the-variants.{Figure, Number}
 use Rattle.joining.specs.declared.Noise.{Noise}
 
 abbrev total : ℕ → ℕ → Total
-total n sum = totalOf n (f64Of sum)
+total n sum = totalWith n (f64Of sum)
 
 abbrev thirds : ℕ → Float
 thirds n = round binary64 false n 3
@@ -52,29 +52,29 @@ abbrev beside : Float → Float → List Found
 beside med var = Variance 600 med ∷ Variance 200 med ∷ Variance 150 med ∷ Variance 150 var ∷ []
 
 -- the limit is 3 times the median, 100: a band at 300 joins, one at 301 does not
-pub at-the-limit : joined (beside (f64Of 100) (f64Of 300)) .n ≡ 1100
-unfolding joined outlierLimit median totalLess negative isNan larger lt le eq add mul ofInt round
+pub at-the-limit : joinedBands (beside (f64Of 100) (f64Of 300)) .n ≡ 1100
+unfolding joinedBands outlierLimit median totalLess negative isNan larger lt le eq add mul ofInt round
 at-the-limit = refl
 
-pub past-the-limit : joined (beside (f64Of 100) (f64Of 301)) .n ≡ 950
-unfolding joined outlierLimit median totalLess negative isNan larger lt le eq add mul ofInt round
+pub past-the-limit : joinedBands (beside (f64Of 100) (f64Of 301)) .n ≡ 950
+unfolding joinedBands outlierLimit median totalLess negative isNan larger lt le eq add mul ofInt round
 past-the-limit = refl
 
 -- the product is rounded, to 104 and to 103: a band at 104 joins, one at the f64 after 103 does not
-pub limit-rounded : (joined (beside (thirds 104) (f64Of 104)) .n ≡ 1100)
-    × (joined (beside (thirds 103) (ofBits binary64 0x4059_C000_0000_0001)) .n ≡ 950)
-unfolding joined outlierLimit median totalLess negative isNan larger lt le eq add mul ofBits ofInt round
+pub limit-rounded : (joinedBands (beside (thirds 104) (f64Of 104)) .n ≡ 1100)
+    × (joinedBands (beside (thirds 103) (ofBits binary64 0x4059_C000_0000_0001)) .n ≡ 950)
+unfolding joinedBands outlierLimit median totalLess negative isNan larger lt le eq add mul ofBits ofInt round
 limit-rounded = (refl, refl)
 
 -- a band without a variance does not count; at a median of 10 a band at 99 joins, since the limit is 100 at least
-pub missing : joined (Variance 300 (f64Of 10) ∷ Missing ∷ Variance 300 (f64Of 99) ∷ Variance 150 (f64Of 10) ∷ []) .n ≡ 750
-unfolding joined outlierLimit median totalLess negative isNan larger lt le eq add mul ofInt round
+pub missing : joinedBands (Variance 300 (f64Of 10) ∷ Missing ∷ Variance 300 (f64Of 99) ∷ Variance 150 (f64Of 10) ∷ []) .n ≡ 750
+unfolding joinedBands outlierLimit median totalLess negative isNan larger lt le eq add mul ofInt round
 missing = refl
 
 -- each band adds its variance times its count, rounded, in the bands' order
-pub in-band-order : joined (Variance 300 (thirds 278) ∷ Variance 500 (thirds 157) ∷ Missing ∷ Variance 200 (thirds 262) ∷ [])
-    ≡ totalOf 1000 (ofBits binary64 0x40F1_7095_5555_5556)
-unfolding joined outlierLimit median totalLess negative isNan larger lt le eq add mul ofBits ofInt round
+pub in-band-order : joinedBands (Variance 300 (thirds 278) ∷ Variance 500 (thirds 157) ∷ Missing ∷ Variance 200 (thirds 262) ∷ [])
+    ≡ totalWith 1000 (ofBits binary64 0x40F1_7095_5555_5556)
+unfolding joinedBands outlierLimit median totalLess negative isNan larger lt le eq add mul ofBits ofInt round
 in-band-order = refl
 
 -- ---- the deviation
@@ -106,9 +106,9 @@ weight-divides = (refl, refl)
 -- ---- the answer
 
 -- 511 windows joined are too few, 512 are not; no band with a variance is another matter
-pub numbers : (decided (total 511 0) ≡ Number 7) × (decided (total 512 0) ≡ Figure plusZero)
+pub numbers : (sigmaOfTotal (total 511 0) ≡ Number 7) × (sigmaOfTotal (total 512 0) ≡ Figure plusZero)
     × (sigmaOf (Missing ∷ Missing ∷ Missing ∷ Missing ∷ []) ≡ Number 6)
-unfolding decided deviation sigmaOf sqrt convert div ofInt round
+unfolding sigmaOfTotal deviation sigmaOf sqrt convert div ofInt round
 numbers = (refl, refl, refl)
 
 -- n windows of gate and output 0 in band 0, and none in the others
@@ -125,7 +125,7 @@ few = refl
 -- after three rounds for the image, one for a band of 128 windows and none for an empty band
 pub four-rounds : noiseUnder (zeros 128) (zeros 128) (inBand0 128) (settledAt 128 (f64Of 0) 3)
     ≡ record { sigma = Number 7; rounds = 4 }
-unfolding noiseUnder sigmaOf decided joined outlierLimit median bandVariance judged settle maxRounds oneRound next near start quiet meanQuiet mean
+unfolding noiseUnder sigmaOf sigmaOfTotal joinedBands outlierLimit median bandVariance judgedBand settle maxRounds oneRound next near start quiet meanQuiet mean
     threshold cut convert totalLess negative isNan larger magnitude sub neg add mul div lt le eq ofInt round
 four-rounds = refl
 
@@ -136,20 +136,20 @@ from128 starts = noiseUnder (zeros 128) (zeros 128) starts (settledAt 128 (f64Of
 pub each-band : (from128 (0 ∷ 0 ∷ 128 ∷ 128 ∷ 128 ∷ []) ≡ record { sigma = Number 7; rounds = 4 })
     × (from128 (0 ∷ 0 ∷ 0 ∷ 128 ∷ 128 ∷ []) ≡ record { sigma = Number 7; rounds = 4 })
     × (from128 (0 ∷ 0 ∷ 0 ∷ 0 ∷ 128 ∷ []) ≡ record { sigma = Number 7; rounds = 4 })
-unfolding noiseUnder sigmaOf decided joined outlierLimit median bandVariance judged settle maxRounds oneRound next near start quiet meanQuiet mean
+unfolding noiseUnder sigmaOf sigmaOfTotal joinedBands outlierLimit median bandVariance judgedBand settle maxRounds oneRound next near start quiet meanQuiet mean
     threshold cut convert totalLess negative isNan larger magnitude sub neg add mul div lt le eq ofInt round
 each-band = (refl, refl, refl)
 
 -- four bands of 128 windows are joined to 512, and each has its round
 pub all-bands : noiseUnder (zeros 512) (zeros 512) (0 ∷ 128 ∷ 256 ∷ 384 ∷ 512 ∷ []) (settledAt 512 (f64Of 0) 3)
     ≡ record { sigma = Figure plusZero; rounds = 7 }
-unfolding noiseUnder sigmaOf decided deviation sqrt joined outlierLimit median bandVariance judged settle maxRounds oneRound next near start quiet
+unfolding noiseUnder sigmaOf sigmaOfTotal deviation sqrt joinedBands outlierLimit median bandVariance judgedBand settle maxRounds oneRound next near start quiet
     meanQuiet mean threshold cut convert totalLess negative isNan larger magnitude sub neg add mul div lt le eq ofInt round
 all-bands = refl
 
 -- a band's two rounds count also where it has no variance in the end: one of about 1,001, above 8 times the image's 100
 pub rounds-without-variance : noiseUnder (zeros 128) (from (λ (k : ℕ). f64Of 1000) 0 128) (inBand0 128) (settledAt 128 (f64Of 100) 3)
     ≡ record { sigma = Number 6; rounds = 5 }
-unfolding noiseUnder sigmaOf bandVariance judged settle maxRounds oneRound next near start quiet meanQuiet mean threshold cut convert totalLess
+unfolding noiseUnder sigmaOf bandVariance judgedBand settle maxRounds oneRound next near start quiet meanQuiet mean threshold cut convert totalLess
     negative isNan larger magnitude sub neg add mul div lt le eq ofInt round
 rounds-without-variance = refl

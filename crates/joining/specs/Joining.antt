@@ -12,7 +12,7 @@ use Rattle.laws.specs.Lists.{from}
 use Rattle.quantile.specs.Rising.{at, rising}
 use Rattle.ieee.specs.Numbers.{plusZero, f64Of}
 use Rattle.sums.specs.Numbers.{roundingOpVar}
-use Rattle.sums.specs.Admitted.{totalOf, noTotal}
+use Rattle.sums.specs.Admitted.{totalWith, noTotal}
 use Rattle.rounds.specs.Rounds.{band, bandVariance, imageVariance}
 use Rattle.sums.specs.declared.Total.{Total}
 use Rattle.rounds.specs.declared.Settled.{Settled}
@@ -49,7 +49,7 @@ outlierLimit med = mul binary64 maxBandOutlier (larger med roundingOpVar)
 
 -- a band of n admitted windows joins, and adds its variance n times
 abbrev pub withBand : Total → ℕ → Float → Total
-withBand k n var = totalOf (k .n + n) (add binary64 (k .sum) (mul binary64 (f64Of n) var))
+withBand k n var = totalWith (k .n + n) (add binary64 (k .sum) (mul binary64 (f64Of n) var))
 
 abbrev pub withFound : Float → Total → Found → Total
 withFound limit k (Variance n var) = cond (le var limit) (withBand k n var) k
@@ -60,8 +60,8 @@ abbrev pub joinFrom : Float → Total → List Found → Total
 joinFrom limit k [] = k
 joinFrom limit k (f ∷ bands) = joinFrom limit (withFound limit k f) bands
 
-unfoldable pub joined : List Found → Total
-joined bands = joinFrom (outlierLimit (median (variances bands))) noTotal bands
+unfoldable pub joinedBands : List Found → Total
+joinedBands bands = joinFrom (outlierLimit (median (variances bands))) noTotal bands
 
 -- ---- the answer
 
@@ -73,11 +73,11 @@ minSamples = 512
 unfoldable pub deviation : Total → Float
 deviation k = convert binary32 (div binary64 (sqrt binary64 (div binary64 (k .sum) (f64Of (k .n)))) operatorGain)
 
-unfoldable pub decided : Total → Sigma
-decided k = cond (ltb (k .n) minSamples) (Number 7) (Figure (deviation k))
+unfoldable pub sigmaOfTotal : Total → Sigma
+sigmaOfTotal k = cond (ltb (k .n) minSamples) (Number 7) (Figure (deviation k))
 
 unfoldable pub sigmaOf : List Found → Sigma
-sigmaOf bands = cond (eqb (length (variances bands)) 0) (Number 6) (decided (joined bands))
+sigmaOf bands = cond (eqb (length (variances bands)) 0) (Number 6) (sigmaOfTotal (joinedBands bands))
 
 -- the variance of band b
 abbrev pub bandAt : List Float → List Float → List ℕ → Float → ℕ → BandVariance

@@ -7,7 +7,7 @@ ghost use Rattle.quantile.specs.Rising.{at, rising, inserted, Rises};
 ghost use Rattle.sums.specs.Admitted.{noTotal};
 ghost use Rattle.rounds.specs.Rounds.{part, bandVariance, Bands};
 ghost use Rattle.joining.specs.Joining as Joining;
-ghost use Rattle.joining.specs.Joining.{variances, varianceOf, withFound, joinFrom, decided, sigmaOf, noise};
+ghost use Rattle.joining.specs.Joining.{variances, varianceOf, withFound, joinFrom, sigmaOfTotal, sigmaOf, noise};
 ghost use Rattle.joining.specs.Windows.{windowsOf, windowsIn};
 use rounds::Found;
 use sums::Total;
@@ -215,7 +215,7 @@ fn add_band(k: Total, f: Found, limit: f64) -> Total
 
 // The answer where some band has a variance.
 fn decide(k: Total) -> Sigma
-    ensures { λ r. ⌜ r ≡ decided k ⌝ }
+    ensures { λ r. ⌜ r ≡ sigmaOfTotal k ⌝ }
 {
     if k.n < MIN_SAMPLES {
         return Sigma::Number(7);

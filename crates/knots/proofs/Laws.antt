@@ -15,7 +15,7 @@ use Rattle.knots.specs.declared.Width.the-variants.{Known, Unknown}
 use Rattle.knots.specs.declared.Place.{Place}
 use Rattle.knots.specs.declared.Place.the-variants.{Knot, Between}
 use Rattle.knots.specs.Places.{every, placeFrom, place, blend, valueAt}
-use Rattle.knots.specs.Loops.{Inside}
+use Rattle.knots.specs.Loops.{AmongKnots}
 use Rattle.knots.proofs.Tables.{Seeking, seek-start, seek-more, seek-found, seek-end}
 
 -- ---- the rule of the knots
@@ -81,7 +81,7 @@ place-same l m n (Known w) p h =
     ap (λ (x : Float). cond (finite w && not (le w x)) (placeFrom l w 0 (n - 1)) (Knot 0)) (h 0 p)
     ∙ ap (λ (r : Place). cond (finite w && not (le w (at m 0))) r (Knot 0)) (place-from-same l m w 0 (n - 1) (λ j i. h j (omega arith)))
 
-pub value-same : (l m : List Float) (n : ℕ) (p : Place) → Inside n p → ((j : ℕ) → j < n → at l j ≡ at m j) → valueAt l p ≡ valueAt m p
+pub value-same : (l m : List Float) (n : ℕ) (p : Place) → AmongKnots n p → ((j : ℕ) → j < n → at l j ≡ at m j) → valueAt l p ≡ valueAt m p
 unfolding valueAt
 value-same l m n (Knot k) i h = h k i
 value-same l m n (Between k t) i h = ap (λ (x : Float). blend x (at l (k + 1)) t) (h k (omega arith)) ∙ ap (λ (y : Float). blend (at m k) y t) (h (k + 1) i)

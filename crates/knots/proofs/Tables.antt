@@ -17,7 +17,7 @@ use Rattle.ranges.specs.Arith.{_⊖_, _⊘_, at}
 use Rattle.ranges.specs.Ranges.{within}
 use Rattle.ranges.proofs.Negations.{not-le}
 use Rattle.knots.specs.Places.{every, risesAt, knotAt, placeFrom, place}
-use Rattle.knots.specs.Loops.{sound, Inside}
+use Rattle.knots.specs.Loops.{sound, AmongKnots}
 
 -- ---- a test of each of n
 
@@ -147,12 +147,12 @@ module _ (l : List Float) (w : Float) where
 
   -- ---- a place lies among the knots
 
-  place-from-in : (k n m : ℕ) → k + n < m → Inside m (placeFrom l w k n)
+  place-from-in : (k n m : ℕ) → k + n < m → AmongKnots m (placeFrom l w k n)
   place-from-in k zero m h = omega arith
   place-from-in k (suc n) m h =
-      cond-both (Inside m) (le w (at l (k + 1))) _ _ (omega arith) (place-from-in (k + 1) n m (omega arith))
+      cond-both (AmongKnots m) (le w (at l (k + 1))) _ _ (omega arith) (place-from-in (k + 1) n m (omega arith))
 
-pub place-in : (l : List Float) (n m : ℕ) (w : Width) → 0 < n → n ≤ m → Inside m (place l n w)
+pub place-in : (l : List Float) (n m : ℕ) (w : Width) → 0 < n → n ≤ m → AmongKnots m (place l n w)
 unfolding place
 place-in l n m Unknown p h = omega arith
-place-in l n m (Known w) p h = cond-both (Inside m) (finite w && not (le w (at l 0))) _ _ (place-from-in l w 0 (n - 1) m (omega arith)) (omega arith)
+place-in l n m (Known w) p h = cond-both (AmongKnots m) (finite w && not (le w (at l 0))) _ _ (place-from-in l w 0 (n - 1) m (omega arith)) (omega arith)

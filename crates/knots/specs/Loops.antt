@@ -13,6 +13,6 @@ sound widths gains residuals n =
     every (risesAt widths) (n - 1) && ((every (knotAt widths) n && every (knotAt gains) n) && every (knotAt residuals) n)
 
 -- a place's own knot, or the one below it and the one above, is among the first n
-abbrev pub Inside : ℕ → Place → Type 0
-Inside n (Knot k) = k < n
-Inside n (Between k t) = k + 1 < n
+abbrev pub AmongKnots : ℕ → Place → Type 0
+AmongKnots n (Knot k) = k < n
+AmongKnots n (Between k t) = k + 1 < n

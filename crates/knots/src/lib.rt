@@ -2,7 +2,7 @@
 ghost use mathlib.Core.Path.{_≡_};
 ghost use Prim.Native.Nat.{_<_, _≤_};
 ghost use Rattle.knots.specs.Places.{every, risesAt, placeFrom, place, blend, valueAt};
-ghost use Rattle.knots.specs.Loops.{sound, Inside};
+ghost use Rattle.knots.specs.Loops.{sound, AmongKnots};
 
 // The width of an edge, px.
 pub enum Width {
@@ -93,7 +93,7 @@ pub fn place_of(widths: &[f32; 16], count: usize, width: Width) -> Place
 
 // A gain or residual at a place.
 pub fn interpolated(values: &[f32; 16], p: Place) -> f32
-    requires { ⌜ Inside 16 p ⌝ }
+    requires { ⌜ AmongKnots 16 p ⌝ }
     ensures { λ r. ⌜ r ≡ valueAt (now (values .entry)) p ⌝ }
 {
     match p {

@@ -12,7 +12,7 @@ use Rattle.little_endian.specs.Bytes.{valueOf}
 use Rattle.noise.specs.Call.{refused}
 use Rattle.lid_bytes.specs.declared.Input.the-variants.{Refused}
 use Rattle.lid_bytes.specs.Input.{mostPixels, inputBytes, pixelsOf, parsedOf}
-use Rattle.lid.specs.Answer.{answerBy, lidAnswer}
+use Rattle.lid.specs.Answer.{answerParsed, lidAnswer}
 use Rattle.lid_bytes.proofs.Inputs.{too-many, unlike}
 
 same-slice : (f t n : ℕ) (l : List ℕ) → t ≤ n → slice f t l ≡ slice f t (take n l)
@@ -20,7 +20,7 @@ same-slice f t n l h = ap (λ (m : List ℕ). drop f m) (sym (take-take t n l h)
 
 as-number : (input : List ℕ) (k : ℕ) → Refused k ≡ parsedOf input → lidAnswer input ≡ refused k
 unfolding lidAnswer
-as-number input k e = ap (answerBy (pixelsOf input)) (sym e)
+as-number input k e = ap (answerParsed (pixelsOf input)) (sym e)
 
 -- an input that goes on past n bytes is refused, by the same number as its first n
 module _ (n : ℕ) (all : 4 + mostPixels < n) (input : List ℕ) (long : n < length input) where

@@ -9,12 +9,12 @@ use Rattle.lid_bytes.specs.declared.Input.the-variants.{Image, Refused}
 use Rattle.lid_bytes.specs.Input.{pixelsOf, parsedOf}
 use Rattle.lid_bytes.specs.Report.{reportOf}
 
-abbrev pub answerBy : List ℕ → Input → Answer
-answerBy pixels (Image w h) = noiseOf pixels w h false
-answerBy pixels (Refused n) = refused n
+abbrev pub answerParsed : List ℕ → Input → Answer
+answerParsed pixels (Image w h) = noiseOf pixels w h false
+answerParsed pixels (Refused n) = refused n
 
 unfoldable pub lidAnswer : List ℕ → Answer
-lidAnswer input = answerBy (pixelsOf input) (parsedOf input)
+lidAnswer input = answerParsed (pixelsOf input) (parsedOf input)
 
 abbrev pub outputOf : List ℕ → List ℕ
 outputOf input = reportOf (lidAnswer input)

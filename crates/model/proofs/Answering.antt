@@ -19,8 +19,8 @@ use Rattle.model.specs.declared.SystematicModel.{SystematicModel}
 use Rattle.model.specs.declared.At.{At}
 use Rattle.model.specs.declared.At.the-variants.{Given, Refused}
 use Rattle.model.specs.declared.Modelled.{Modelled}
-use Rattle.model.specs.Knots.{rising, knotsInRange, knotsNumber, gainAt, residualAt, atOf, atNumber, atGain, atResidual}
-use Rattle.model.specs.Model.{systematicAt, estimateInRange, modelNumber, ungrown, refusal, modelOf}
+use Rattle.model.specs.Knots.{risingKnots, knotsInRange, knotsNumber, gainAt, residualAt, atOf, atNumber, atGain, atResidual}
+use Rattle.model.specs.Model.{systematicAt, estimateInRange, modelNumber, ungrown, refusedModel, modelOf}
 use Rattle.model.specs.Answers.{AtAnswers, ModelAnswers}
 
 -- ---- at
@@ -54,7 +54,7 @@ at-answers s w = record {
 }
   where
     a : Bool
-    a = rising s
+    a = risingKnots s
 
     b : Bool
     b = knotsInRange s
@@ -77,7 +77,7 @@ module _ (s : SystematicModel) (c : PositionCovariance) (u : List Float) (w : Wi
   abbrev good : Modelled
   good = record { number = 0; model = ungrown c (systematicAt s u w grid) }
 
-  by-number : (n : ℕ) (b : Bool) → eqb n 0 ≡ b → n ≡ cond b good (refusal n) .number
+  by-number : (n : ℕ) (b : Bool) → eqb n 0 ≡ b → n ≡ cond b good (refusedModel n) .number
   by-number n true h = eqb-true n 0 h
   by-number n false h = refl
 
@@ -94,12 +94,12 @@ module _ (s : SystematicModel) (c : PositionCovariance) (u : List Float) (w : Wi
     is-0 = turn 0 (another (unless a) (λ q. omega arith) (another (unless b) (λ q. omega arith) (otherwise (unless d) (λ q. omega arith))));
     no-other = subst (OneOf all) number-is
         (cond-both (OneOf all) (not a) 14 _ (inl refl) (cond-both (OneOf all) (not b) 12 _ (inr (inl refl)) (cond-both (OneOf all) (not d) 13 0 (inr (inr (inl refl))) (inr (inr (inr (inl refl)))))));
-    refused = λ h. ap (λ (b : Bool). cond b good (refusal N) .model) (ne-eqb N 0 (λ q. h (sym number-is ∙ q)));
-    done = λ h. ap (λ (n : ℕ). cond (eqb n 0) good (refusal n) .model) (number-is ∙ h);
+    refused = λ h. ap (λ (b : Bool). cond b good (refusedModel N) .model) (ne-eqb N 0 (λ q. h (sym number-is ∙ q)));
+    done = λ h. ap (λ (n : ℕ). cond (eqb n 0) good (refusedModel n) .model) (number-is ∙ h);
   }
     where
       a : Bool
-      a = rising s
+      a = risingKnots s
 
       b : Bool
       b = knotsInRange s && estimateInRange c u grid

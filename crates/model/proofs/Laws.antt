@@ -20,7 +20,7 @@ use Rattle.knots.proofs.Tables.{place-in}
 use Rattle.knots.proofs.Laws.{every-same, place-same, value-same}
 use Rattle.model.specs.declared.At.{At}
 use Rattle.model.specs.declared.At.the-variants.{Given, Refused}
-use Rattle.model.specs.Knots.{table, rising, knotsInRange, knotsNumber, gainAt, residualAt, atOf}
+use Rattle.model.specs.Knots.{table, risingKnots, knotsInRange, knotsNumber, gainAt, residualAt, atOf}
 use Rattle.model.specs.Systematic.{uniformVariance}
 use Rattle.model.proofs.Refusals.{knots}
 
@@ -45,7 +45,7 @@ module _ (n : ℕ) (f : Float) (l g r l′ g′ r′ : List Float)
   unfolding knotsNumber
   same-number =
       ap (λ (b : Bool). cond (not ((ltb 0 n && leb n 16) && b)) 14 (cond (not (knotsInRange (table n f l g r))) 12 0)) rise
-      ∙ ap (λ (b : Bool). cond (not (rising (table n f l′ g′ r′))) 14 (cond (not (b && upTo 1000 f)) 12 0)) (and (and (in-range l l′ hl) (in-range g g′ hg)) (in-range r r′ hr))
+      ∙ ap (λ (b : Bool). cond (not (risingKnots (table n f l′ g′ r′))) 14 (cond (not (b && upTo 1000 f)) 12 0)) (and (and (in-range l l′ hl) (in-range g g′ hg)) (in-range r r′ hr))
 
   cond-same : {A : Type 0} (b : Bool) (x y z : A) → (b ≡ true → x ≡ y) → cond b x z ≡ cond b y z
   cond-same true x y z h = h refl

@@ -16,8 +16,8 @@ use Rattle.knots.specs.Places.{every, risesAt, knotAt}
 use Rattle.knots.specs.Loops.{sound}
 use Rattle.model.specs.declared.SystematicModel.{SystematicModel}
 use Rattle.model.specs.declared.At.the-variants.{Given, Refused}
-use Rattle.model.specs.Knots.{rising, knotsInRange, knotsNumber, gainAt, residualAt, atOf}
-use Rattle.model.specs.Model.{systematicAt, estimateInRange, modelNumber, ungrown, refusal, modelOf}
+use Rattle.model.specs.Knots.{risingKnots, knotsInRange, knotsNumber, gainAt, residualAt, atOf}
+use Rattle.model.specs.Model.{systematicAt, estimateInRange, modelNumber, ungrown, refusedModel, modelOf}
 
 -- ---- the knots
 
@@ -26,9 +26,9 @@ module _ (s : SystematicModel) where
   by : Bool → Bool → ℕ
   by a b = cond (not a) 14 (cond (not b) 12 0)
 
-  number-is : (a b : Bool) → rising s ≡ a → knotsInRange s ≡ b → by a b ≡ knotsNumber s
+  number-is : (a b : Bool) → risingKnots s ≡ a → knotsInRange s ≡ b → by a b ≡ knotsNumber s
   unfolding knotsNumber by
-  number-is a b f g = ap (λ (z : Bool). by z b) (sym f) ∙ ap (λ (z : Bool). by (rising s) z) (sym g)
+  number-is a b f g = ap (λ (z : Bool). by z b) (sym f) ∙ ap (λ (z : Bool). by (risingKnots s) z) (sym g)
 
   pub none : s .count ≡ 0 → 14 ≡ knotsNumber s
   unfolding by
@@ -41,7 +41,7 @@ module _ (s : SystematicModel) where
       (ap (λ (z : Bool). z && every (risesAt (s .widths)) (s .count - 1)) (and (lt-ltb 0 (s .count) (omega arith)) (lt-leb (s .count) 16 h))) refl
 
   module _ (p : (s .count ≡ 0) → ⊥) (q : s .count ≤ 16) where
-    counted : rising s ≡ every (risesAt (s .widths)) (s .count - 1)
+    counted : risingKnots s ≡ every (risesAt (s .widths)) (s .count - 1)
     counted = ap (λ (z : Bool). z && every (risesAt (s .widths)) (s .count - 1)) (and (lt-ltb 0 (s .count) (omega arith)) (le-leb (s .count) 16 q))
 
     abbrev E : Bool
@@ -74,7 +74,7 @@ module _ (s : SystematicModel) where
   pub knots : 0 ≡ knotsNumber s → (0 < s .count) × (s .count ≤ 16)
   unfolding knotsNumber by
   knots e =
-      let r = by-count (rising s) (knotsInRange s) (sym e) in
+      let r = by-count (risingKnots s) (knotsInRange s) (sym e) in
       let c = and-left (ltb 0 (s .count) && leb (s .count) 16) (every (risesAt (s .widths)) (s .count - 1)) r in
       (ltb-true 0 (s .count) (and-left (ltb 0 (s .count)) (leb (s .count) 16) c), leb-true (s .count) 16 (and-right (ltb 0 (s .count)) (leb (s .count) 16) c))
 
@@ -103,9 +103,9 @@ pass true false e r q = absurd (omega arith)
 pass true true e r q = refl
 
 module _ (s : SystematicModel) (c : PositionCovariance) (u : List Float) (w : Width) (grid : Float) where
-  pub model-knots : (n : ℕ) → (n ≡ 0 → ⊥) → n ≡ knotsNumber s → refusal n ≡ modelOf s c u w grid
+  pub model-knots : (n : ℕ) → (n ≡ 0 → ⊥) → n ≡ knotsNumber s → refusedModel n ≡ modelOf s c u w grid
   unfolding modelOf modelNumber knotsNumber
-  model-knots n h e = stands refusal _ n h (stand (rising s) (knotsInRange s) (estimateInRange c u grid) (cond (not (allFinite (systematicAt s u w grid))) 13 0) h e)
+  model-knots n h e = stands refusedModel _ n h (stand (risingKnots s) (knotsInRange s) (estimateInRange c u grid) (cond (not (allFinite (systematicAt s u w grid))) 13 0) h e)
 
   module _ (e : 0 ≡ knotsNumber s) where
     -- by the tests after those of the knots, in their order
@@ -116,19 +116,19 @@ module _ (s : SystematicModel) (c : PositionCovariance) (u : List Float) (w : Wi
     unfolding modelNumber then knotsNumber
     then-is a b f g =
         ap (λ (z : Bool). then z b) (sym f) ∙ ap (λ (z : Bool). then (estimateInRange c u grid) z) (sym g)
-        ∙ pass (rising s) (knotsInRange s) (estimateInRange c u grid) (cond (not (allFinite (systematicAt s u w grid))) 13 0) e
+        ∙ pass (risingKnots s) (knotsInRange s) (estimateInRange c u grid) (cond (not (allFinite (systematicAt s u w grid))) 13 0) e
 
-    pub model-12 : estimateInRange c u grid ≡ false → refusal 12 ≡ modelOf s c u w grid
+    pub model-12 : estimateInRange c u grid ≡ false → refusedModel 12 ≡ modelOf s c u w grid
     unfolding modelOf then
-    model-12 f = stands refusal _ 12 (λ q. omega arith) (then-is false (allFinite (systematicAt s u w grid)) f refl)
+    model-12 f = stands refusedModel _ 12 (λ q. omega arith) (then-is false (allFinite (systematicAt s u w grid)) f refl)
 
     module _ (f : estimateInRange c u grid ≡ true) {d : PositionCovariance} (g : d ≡ systematicAt s u w grid) where
-      pub model-13 : allFinite d ≡ false → refusal 13 ≡ modelOf s c u w grid
+      pub model-13 : allFinite d ≡ false → refusedModel 13 ≡ modelOf s c u w grid
       unfolding modelOf then
-      model-13 h = stands refusal _ 13 (λ q. omega arith) (then-is true false f (ap allFinite (sym g) ∙ h))
+      model-13 h = stands refusedModel _ 13 (λ q. omega arith) (then-is true false f (ap allFinite (sym g) ∙ h))
 
       pub model-0 : allFinite d ≡ true → record { number = 0; model = ungrown c d } ≡ modelOf s c u w grid
       unfolding modelOf then
       model-0 h =
           ap (λ (d : PositionCovariance). record { number = 0; model = ungrown c d }) g
-          ∙ follows refusal _ (then-is true true f (ap allFinite (sym g) ∙ h))
+          ∙ follows refusedModel _ (then-is true true f (ap allFinite (sym g) ∙ h))

@@ -17,8 +17,8 @@ abbrev pub table : ℕ → Float → List Float → List Float → List Float �
 table n f l g r = record { widths = l; gains = g; residuals = r; count = n; floor = f }
 
 -- one to sixteen knots, each width above the one before it
-abbrev pub rising : SystematicModel → Bool
-rising s = (ltb 0 (s .count) && leb (s .count) 16) && every (risesAt (s .widths)) (s .count - 1)
+abbrev pub risingKnots : SystematicModel → Bool
+risingKnots s = (ltb 0 (s .count) && leb (s .count) 16) && every (risesAt (s .widths)) (s .count - 1)
 
 -- the counted knots' numbers and the floor are in their ranges
 abbrev pub knotsInRange : SystematicModel → Bool
@@ -28,7 +28,7 @@ knotsInRange s =
 
 -- 14: no knot, over 16, or widths that don't rise strictly; then 12
 unfoldable pub knotsNumber : SystematicModel → ℕ
-knotsNumber s = cond (not (rising s)) 14 (cond (not (knotsInRange s)) 12 0)
+knotsNumber s = cond (not (risingKnots s)) 14 (cond (not (knotsInRange s)) 12 0)
 
 abbrev pub gainAt : SystematicModel → Width → Float
 gainAt s w = valueAt (s .gains) (place (s .widths) (s .count) w)

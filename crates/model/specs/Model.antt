@@ -13,7 +13,7 @@ use Rattle.knots.specs.Places.{place, valueAt}
 use Rattle.ranges.specs.Ranges.{upTo, allWithin, bothWithin}
 use Rattle.model.specs.declared.SystematicModel.{SystematicModel}
 use Rattle.model.specs.declared.Modelled.{Modelled}
-use Rattle.model.specs.Knots.{rising, knotsInRange, gainAt, residualAt}
+use Rattle.model.specs.Knots.{risingKnots, knotsInRange, gainAt, residualAt}
 use Rattle.model.specs.Systematic.{systematic}
 
 -- what the knots, read at the width, make of it
@@ -28,7 +28,7 @@ estimateInRange c u grid = (allWithin 1000000 c && bothWithin 1000 u) && upTo 10
 unfoldable pub modelNumber : SystematicModel → PositionCovariance → List Float → Width → Float → ℕ
 unfolding systematic place valueAt
 modelNumber s c u w grid =
-    cond (not (rising s)) 14
+    cond (not (risingKnots s)) 14
     (cond (not (knotsInRange s && estimateInRange c u grid)) 12
     (cond (not (allFinite (systematicAt s u w grid))) 13
     0))
@@ -38,11 +38,11 @@ abbrev pub ungrown : PositionCovariance → PositionCovariance → CovarianceMod
 ungrown c d = record { noise = c; systematic = d; growth = plusZero ∷ plusZero ∷ [] }
 
 -- zeros under a number
-abbrev pub refusal : ℕ → Modelled
-refusal n = record { number = n; model = ungrown zeros zeros }
+abbrev pub refusedModel : ℕ → Modelled
+refusedModel n = record { number = n; model = ungrown zeros zeros }
 
 unfoldable pub modelOf : SystematicModel → PositionCovariance → List Float → Width → Float → Modelled
 unfolding modelNumber
 modelOf s c u w grid =
     let n = modelNumber s c u w grid in
-    cond (eqb n 0) (record { number = 0; model = ungrown c (systematicAt s u w grid) }) (refusal n)
+    cond (eqb n 0) (record { number = 0; model = ungrown c (systematicAt s u w grid) }) (refusedModel n)

@@ -4,7 +4,7 @@ ghost use Prim.Native.Nat.{_<_, _≤_};
 ghost use Rattle.model.specs.Knots.{table, knotsNumber, atOf};
 ghost use Rattle.model.specs.Helpers.{pairAt};
 ghost use Rattle.model.specs.Systematic.{uniformVariance, about, systematic};
-ghost use Rattle.model.specs.Model.{refusal, modelOf};
+ghost use Rattle.model.specs.Model.{refusedModel, modelOf};
 use covariance::CovarianceModel;
 use knots::Width;
 use refine::PositionCovariance;
@@ -168,7 +168,7 @@ impl SystematicModel {
 
 // Zeros under a number.
 fn refused(number: u32) -> Modelled
-    ensures { λ r. ⌜ r ≡ refusal number ⌝ }
+    ensures { λ r. ⌜ r ≡ refusedModel number ⌝ }
 {
     let zeros = PositionCovariance::new(0.0, 0.0, 0.0);
     Modelled {

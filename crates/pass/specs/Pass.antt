@@ -9,7 +9,7 @@ use Rattle.band.specs.declared.Sample.{Sample}
 use Rattle.rounds.specs.Rounds.{imageVariance}
 use Rattle.rounds.specs.declared.Settled.{Settled}
 use Rattle.rounds.specs.declared.Found.{Found}
-use Rattle.joining.specs.Joining.{variances, joined, founds, noise, numberOf, figureOf}
+use Rattle.joining.specs.Joining.{variances, joinedBands, founds, noise, numberOf, figureOf}
 use Rattle.joining.specs.declared.Noise.{Noise}
 use Rattle.pass.specs.declared.Pass.{Pass}
 
@@ -58,4 +58,4 @@ abbrev pub foundBy : List WindowStats → ℕ
 foundBy fs = length (variances (foundsIn fs))
 
 abbrev pub heldBy : List WindowStats → ℕ
-heldBy fs = joined (foundsIn fs) .n
+heldBy fs = joinedBands (foundsIn fs) .n

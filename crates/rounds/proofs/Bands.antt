@@ -14,10 +14,10 @@ use Rattle.ieee.specs.Order.{larger}
 use Rattle.laws.proofs.Choice.{chosen, passed}
 use Rattle.ieee.specs.Numbers.{plusZero}
 use Rattle.sums.specs.Numbers.{roundingOpVar}
-use Rattle.sums.specs.Admitted.{totalOf}
+use Rattle.sums.specs.Admitted.{totalWith}
 use Rattle.rounds.specs.Numbers.{maxBandRatio}
 use Rattle.sums.specs.Start.{start}
-use Rattle.rounds.specs.Rounds.{settle, bandTotal, minBandSamples, judged, bandBy, bandVariance, part, band, Bands, bandsTotal, imageTotal, imageVariance}
+use Rattle.rounds.specs.Rounds.{settle, bandTotal, minBandSamples, judgedBand, bandBy, bandVariance, part, band, Bands, bandsTotal, imageTotal, imageVariance}
 use Rattle.sums.specs.declared.Total.{Total}
 use Rattle.rounds.specs.declared.Settled.{Settled}
 use Rattle.rounds.specs.declared.Found.{Found}
@@ -31,22 +31,22 @@ module _ (s : Settled) (image : Float) where
   abbrev found : Found
   found = Variance (s .n) (s .var)
 
-  pub judged-few : s .n < minBandSamples → Missing ≡ judged s image
-  unfolding judged
+  pub judged-few : s .n < minBandSamples → Missing ≡ judgedBand s image
+  unfolding judgedBand
   judged-few h =
       sym (ap (λ (x : Bool). cond (x && not (lt (mul binary64 maxBandRatio (larger image roundingOpVar)) (s .var))) found Missing) (lt-leb minBandSamples (s .n) h))
 
   module _ (h : minBandSamples ≤ s .n) {m : Float} (e : m ≡ larger image roundingOpVar) where
-    by-ratio : cond (not (lt (mul binary64 maxBandRatio m) (s .var))) found Missing ≡ judged s image
-    unfolding judged
+    by-ratio : cond (not (lt (mul binary64 maxBandRatio m) (s .var))) found Missing ≡ judgedBand s image
+    unfolding judgedBand
     by-ratio =
         ap (λ (x : Float). cond (not (lt (mul binary64 maxBandRatio x) (s .var))) found Missing) e
         ∙ sym (ap (λ (x : Bool). cond (x && not (lt (mul binary64 maxBandRatio (larger image roundingOpVar)) (s .var))) found Missing) (le-leb minBandSamples (s .n) h))
 
-    pub judged-high : lt (mul binary64 maxBandRatio m) (s .var) ≡ true → Missing ≡ judged s image
+    pub judged-high : lt (mul binary64 maxBandRatio m) (s .var) ≡ true → Missing ≡ judgedBand s image
     judged-high t = sym (ap (λ (x : Bool). cond (not x) found Missing) t) ∙ by-ratio
 
-    pub judged-good : lt (mul binary64 maxBandRatio m) (s .var) ≡ false → found ≡ judged s image
+    pub judged-good : lt (mul binary64 maxBandRatio m) (s .var) ≡ false → found ≡ judgedBand s image
     judged-good t = sym (ap (λ (x : Bool). cond (not x) found Missing) t) ∙ by-ratio
 
 abbrev none : BandVariance
@@ -61,7 +61,7 @@ module _ (g o : List Float) (image : Float) where
   variance-few h = chosen (ltb (length g) minBandSamples) none by-rounds (lt-ltb (length g) minBandSamples h)
 
   pub variance-is : minBandSamples ≤ length g → {v : Float} → v ≡ start g o → {s : Settled} → s ≡ settle (bandTotal g o) v
-      → {f : Found} → f ≡ judged s image → _≡_ {A = BandVariance} (record { found = f; rounds = s .rounds }) (bandVariance g o image)
+      → {f : Found} → f ≡ judgedBand s image → _≡_ {A = BandVariance} (record { found = f; rounds = s .rounds }) (bandVariance g o image)
   unfolding bandVariance
   variance-is h {v} p {s} q {f} e =
       ap (λ (x : Found). with-found x) e ∙ ap (λ (x : Settled). bandBy x image) (q ∙ ap (settle (bandTotal g o)) p)
@@ -133,10 +133,10 @@ module _ {g o : List Float} {starts : List ℕ} {var s : Float} {n b : ℕ} (j :
   joined-few B h {k} e =
       omega (arith, joined-more h e .count, bands-few B var (b + 1) (omega arith), within B (b + 1) (omega arith))
 
-  pub joined-end : 4 ≤ b → totalOf n s ≡ imageTotal g o starts var
+  pub joined-end : 4 ≤ b → totalWith n s ≡ imageTotal g o starts var
   unfolding imageTotal
   joined-end h =
-      ap (λ (x : ℕ). totalOf x s) (j .count) ∙ ap (totalOf (bandsTotal g o starts var b .n)) (j .sum) ∙ ap (bandsTotal g o starts var) (le-antisymm (j .low) h)
+      ap (λ (x : ℕ). totalWith x s) (j .count) ∙ ap (totalWith (bandsTotal g o starts var b .n)) (j .sum) ∙ ap (bandsTotal g o starts var) (le-antisymm (j .low) h)
 
 pub image-is : (g o : List Float) (starts : List ℕ) {r : Settled} → r ≡ settle (imageTotal g o starts) (start g o) → r ≡ imageVariance g o starts
 unfolding imageVariance

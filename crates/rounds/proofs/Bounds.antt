@@ -13,7 +13,7 @@ use Rattle.laws.proofs.Choice.{cond-both}
 use Rattle.sums.specs.Numbers.{roundingOpVar}
 use Rattle.rounds.specs.Numbers.{maxBandRatio}
 use Rattle.sums.specs.Start.{start}
-use Rattle.rounds.specs.Rounds.{oneRound, roundsFrom, maxRounds, startAt, settle, bandTotal, minBandSamples, judged, bandBy, bandVariance, imageTotal, imageVariance}
+use Rattle.rounds.specs.Rounds.{oneRound, roundsFrom, maxRounds, startAt, settle, bandTotal, minBandSamples, judgedBand, bandBy, bandVariance, imageTotal, imageVariance}
 use Rattle.sums.specs.declared.Total.{Total}
 use Rattle.rounds.specs.declared.Settled.{Settled}
 use Rattle.rounds.specs.declared.Round.{Round}
@@ -83,8 +83,8 @@ module _ (g o : List Float) (image : Float) where
   pub variance-rounds : bandVariance g o image .rounds ≤ 12
   variance-rounds = variance-both (λ (v : BandVariance). v .rounds ≤ 12) (omega arith) (settle-rounds (bandTotal g o) (start g o) .1)
 
-  judged-both : (P : Found → Type 0) (s : Settled) → P (Variance (s .n) (s .var)) → P Missing → P (judged s image)
-  unfolding judged
+  judged-both : (P : Found → Type 0) (s : Settled) → P (Variance (s .n) (s .var)) → P Missing → P (judgedBand s image)
+  unfolding judgedBand
   judged-both P s x y =
       cond-both P (leb minBandSamples (s .n) && not (lt (mul binary64 maxBandRatio (larger image roundingOpVar)) (s .var))) (Variance (s .n) (s .var)) Missing x y
 

@@ -9,17 +9,17 @@ use Rattle.ieee.specs.Numbers.{f64Of}
 use Rattle.ieee.specs.Order.{larger, magnitude, totalLess, negative}
 use Rattle.laws.specs.Lists.{from}
 use Rattle.quantile.specs.Quantile.{quiet}
-use Rattle.sums.specs.Admitted.{totalOf, threshold, cut}
+use Rattle.sums.specs.Admitted.{totalWith, threshold, cut}
 use Rattle.sums.specs.Start.{mean, meanQuiet, start}
 use Rattle.sums.specs.declared.Total.{Total}
-use Rattle.rounds.specs.Rounds.{next, near, settledAt, roundOf, oneRound, maxRounds, settle, judged}
+use Rattle.rounds.specs.Rounds.{next, near, settledAt, roundOf, oneRound, maxRounds, settle, judgedBand}
 use Rattle.rounds.specs.Rounds.{bandVariance, imageTotal, imageVariance}
 use Rattle.rounds.specs.declared.Found.the-variants.{Variance, Missing}
 use Rattle.rounds.specs.declared.BandVariance.{BandVariance}
 
 -- n windows that sum to a whole number
 abbrev total : ℕ → ℕ → Total
-total n sum = totalOf n (f64Of sum)
+total n sum = totalWith n (f64Of sum)
 
 -- ---- a round
 
@@ -77,19 +77,19 @@ twelve = refl
 -- ---- a band
 
 -- on 128 windows a variance counts, on 127 it does not; at 8 times the image's it counts, above it does not
-pub judgements : (judged (settledAt 128 (f64Of 800) 3) (f64Of 100) ≡ Variance 128 (f64Of 800))
-    × (judged (settledAt 127 (f64Of 800) 3) (f64Of 100) ≡ Missing)
-    × (judged (settledAt 128 (f64Of 801) 3) (f64Of 100) ≡ Missing)
-unfolding judged mul lt larger ofInt round
+pub judgements : (judgedBand (settledAt 128 (f64Of 800) 3) (f64Of 100) ≡ Variance 128 (f64Of 800))
+    × (judgedBand (settledAt 127 (f64Of 800) 3) (f64Of 100) ≡ Missing)
+    × (judgedBand (settledAt 128 (f64Of 801) 3) (f64Of 100) ≡ Missing)
+unfolding judgedBand mul lt larger ofInt round
 judgements = (refl, refl, refl)
 
 -- the image's counts as 400 / 12 at least: 3200 / 12 counts, the f64 after it does not
 abbrev least-image : Float
 least-image = round binary64 false 3200 12
 
-pub least-judgement : (judged (settledAt 128 least-image 3) (f64Of 0) ≡ Variance 128 least-image)
-    × (judged (settledAt 128 (ofBits binary64 0x4070_AAAA_AAAA_AAAC) 3) (f64Of 0) ≡ Missing)
-unfolding judged mul lt larger ofBits ofInt round
+pub least-judgement : (judgedBand (settledAt 128 least-image 3) (f64Of 0) ≡ Variance 128 least-image)
+    × (judgedBand (settledAt 128 (ofBits binary64 0x4070_AAAA_AAAA_AAAC) 3) (f64Of 0) ≡ Missing)
+unfolding judgedBand mul lt larger ofBits ofInt round
 least-judgement = (refl, refl)
 
 -- a band of 127 windows has no variance and no rounds, one of 128 has both
@@ -101,7 +101,7 @@ unfolding bandVariance
 few-windows = refl
 
 pub enough-windows : flat-band 128 ≡ record { found = Variance 128 (f64Of 0); rounds = 1 }
-unfolding bandVariance judged settle maxRounds oneRound next near start quiet meanQuiet mean threshold cut convert totalLess negative isNan larger
+unfolding bandVariance judgedBand settle maxRounds oneRound next near start quiet meanQuiet mean threshold cut convert totalLess negative isNan larger
     magnitude sub neg add mul div lt le eq ofInt round
 enough-windows = refl
 
@@ -113,7 +113,7 @@ same-outputs first-gate output image =
 
 pub rounds-without-variance : (same-outputs (f64Of 0) 1000 (f64Of 100) ≡ record { found = Missing; rounds = 2 })
     × (same-outputs (f64Of 1000) 10 (f64Of 100) ≡ record { found = Missing; rounds = 2 })
-unfolding bandVariance judged settle maxRounds oneRound next near start quiet meanQuiet mean threshold cut convert totalLess negative isNan larger
+unfolding bandVariance judgedBand settle maxRounds oneRound next near start quiet meanQuiet mean threshold cut convert totalLess negative isNan larger
     magnitude sub neg add mul div lt le eq ofInt round
 rounds-without-variance = (refl, refl)
 
@@ -126,7 +126,7 @@ quiet-gates = f64Of 0 ∷ f64Of 0 ∷ f64Of 0 ∷ f64Of 0 ∷ []
 abbrev squares : List Float
 squares = f64Of 16777216 ∷ f64Of 1 ∷ f64Of 1 ∷ f64Of 1 ∷ []
 
-pub four-bands : imageTotal quiet-gates squares (0 ∷ 1 ∷ 2 ∷ 3 ∷ 4 ∷ []) (f64Of 1048576) ≡ totalOf 4 (f64Of 16777219)
+pub four-bands : imageTotal quiet-gates squares (0 ∷ 1 ∷ 2 ∷ 3 ∷ 4 ∷ []) (f64Of 1048576) ≡ totalWith 4 (f64Of 16777219)
 unfolding imageTotal threshold cut convert larger mul add lt le eq ofInt round
 four-bands = refl
 

@@ -10,7 +10,7 @@ use Rattle.ieee.specs.Order.{larger, magnitude}
 use Rattle.ieee.specs.Numbers.{f64Of}
 use Rattle.sums.specs.Numbers.{roundingOpVar}
 use Rattle.rounds.specs.Numbers.{maxBandRatio, settledFraction, truncSecondMoment}
-use Rattle.sums.specs.Admitted.{totalOf, noTotal, admittedAt}
+use Rattle.sums.specs.Admitted.{totalWith, noTotal, admittedAt}
 use Rattle.sums.specs.Start.{start}
 use Rattle.sums.specs.declared.Total.{Total}
 use Rattle.rounds.specs.declared.Settled.{Settled}
@@ -68,13 +68,13 @@ abbrev pub minBandSamples : ℕ
 minBandSamples = 128
 
 -- a variance counts where it rests on 128 windows and is not above 8 times the image's
-unfoldable pub judged : Settled → Float → Found
-judged s image =
+unfoldable pub judgedBand : Settled → Float → Found
+judgedBand s image =
     cond (leb minBandSamples (s .n) && not (lt (mul binary64 maxBandRatio (larger image roundingOpVar)) (s .var)))
     (Variance (s .n) (s .var)) Missing
 
 abbrev pub bandBy : Settled → Float → BandVariance
-bandBy s image = record { found = judged s image; rounds = s .rounds }
+bandBy s image = record { found = judgedBand s image; rounds = s .rounds }
 
 -- a band under 128 windows has no variance and no rounds
 unfoldable pub bandVariance : List Float → List Float → Float → BandVariance
@@ -96,7 +96,7 @@ pub record Bands (g o : List Float) (starts : List ℕ) : Type 0 where
   pub last : getD starts 4 0 ≤ length g
 
 abbrev pub addTotal : Total → Total → Total
-addTotal k l = totalOf (k .n + l .n) (add binary64 (k .sum) (l .sum))
+addTotal k l = totalWith (k .n + l .n) (add binary64 (k .sum) (l .sum))
 
 -- what the first b bands admit: blocks start anew at each band
 abbrev pub bandsTotal : List Float → List Float → List ℕ → Float → ℕ → Total

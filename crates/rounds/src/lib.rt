@@ -4,7 +4,7 @@ ghost use Prim.Native.Nat.{_≤_, _<_};
 ghost use lib.ListN.{length};
 ghost use Rattle.sums.specs.Start as Start;
 ghost use Rattle.rounds.specs.Rounds as Rounds;
-ghost use Rattle.rounds.specs.Rounds.{judged, bandTotal, bandVariance, part, Bands, imageTotal, imageVariance};
+ghost use Rattle.rounds.specs.Rounds.{judgedBand, bandTotal, bandVariance, part, Bands, imageTotal, imageVariance};
 use sums::Total;
 
 // A band whose variance is above this many times the image's holds structure.
@@ -146,7 +146,7 @@ fn near(n: usize, prev: usize, new: f64, var: f64) -> bool
 
 // Whether a band's variance counts.
 fn judge(s: Settled, image_var: f64) -> Found
-    ensures { λ r. ⌜ r ≡ judged s «image_var» ⌝ }
+    ensures { λ r. ⌜ r ≡ judgedBand s «image_var» ⌝ }
 {
     if s.n < MIN_BAND_SAMPLES {
         return Found::Missing;

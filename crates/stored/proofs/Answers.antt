@@ -8,7 +8,7 @@ use lib.Dec.{eqb}
 use lib.Ieee.{Float}
 use lib.ListN.{getD, List·getD-eq-default}
 use borrow.Author.Tests.{le-leb, lt-leb}
-use Rattle.stored.specs.Floats.{answers, answerOf}
+use Rattle.stored.specs.Floats.{answers, floatAnswer}
 use Rattle.stored.specs.Lines.{written, isLine, agreesAt}
 
 -- k is none of the first n numbers, as a match with an arm for each has it
@@ -32,12 +32,12 @@ module _ {A : Type 0} (g : A → ℕ) where
   of-two f {x₀ = x₀} {y₀ = y₀} p q d e = p ∙ ap g (q ∙ rw (d, e))
 
 module _ (letter a b : ℕ) where
-  pub placed : {v : ℕ} (k : ℕ) → letter % 32 ≡ k → v ≡ getD (answers a b) k 0 → v ≡ answerOf letter a b
-  unfolding answerOf
+  pub placed : {v : ℕ} (k : ℕ) → letter % 32 ≡ k → v ≡ getD (answers a b) k 0 → v ≡ floatAnswer letter a b
+  unfolding floatAnswer
   placed k e h = rw e h
 
-  pub beyond : 12 ≤ letter % 32 → 0 ≡ answerOf letter a b
-  unfolding answerOf
+  pub beyond : 12 ≤ letter % 32 → 0 ≡ floatAnswer letter a b
+  unfolding floatAnswer
   beyond h = sym (List·getD-eq-default (answers a b) 0 h)
 
 module _ (l : List ℕ) (columns at : ℕ) where
@@ -49,6 +49,6 @@ module _ (l : List ℕ) (columns at : ℕ) where
   unfolding agreesAt
   not-a-line h p e = rw (le-leb 3 columns h, ← p, e)
 
-  pub judged : {v r a b : ℕ} {q : Bool} → 3 ≤ columns → q ≡ isLine l columns at → q ≡ true → a ≡ written l (at + 2) 16 → b ≡ written l (at + 19) 16 → v ≡ answerOf (getD l at 0) a b → r ≡ written l (at + 36) 16 → eqb v r ≡ agreesAt l columns at
+  pub judged : {v r a b : ℕ} {q : Bool} → 3 ≤ columns → q ≡ isLine l columns at → q ≡ true → a ≡ written l (at + 2) 16 → b ≡ written l (at + 19) 16 → v ≡ floatAnswer (getD l at 0) a b → r ≡ written l (at + 36) 16 → eqb v r ≡ agreesAt l columns at
   unfolding agreesAt
   judged h p q e f g i = rw (le-leb 3 columns h, ← p, q, g, e, f, i)

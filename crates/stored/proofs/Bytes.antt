@@ -8,7 +8,7 @@ use native.Mathlib.Omega.{arith}
 use lib.Dec.{eqb}
 use lib.ListN.{length, getD}
 use borrow.Author.Tests.{eq-eqb, ne-eqb, lt-ltb, le-ltb}
-use Rattle.stored.specs.Lines.{isDigit, isLetter, belongs, readable, isLine, widthOf, linesOf, written, letterAt, numberAt}
+use Rattle.stored.specs.Lines.{isDigit, isLetter, belongs, readable, isLine, lineBytes, linesOf, written, letterAt, numberAt}
 use Rattle.stored.proofs.Counts.{inside}
 
 module _ (columns k c : ℕ) where
@@ -32,7 +32,7 @@ module _ (columns k c : ℕ) where
 
 -- what is known when k bytes of a line are looked at
 pub record Checked (l : List ℕ) (columns at : ℕ) (good : Bool) (k : ℕ) : Type 0 where
-  pub within : k ≤ widthOf columns
+  pub within : k ≤ lineBytes columns
   pub is : good ≡ readable l columns at k
 
 module _ (l : List ℕ) (columns at : ℕ) where
@@ -40,13 +40,13 @@ module _ (l : List ℕ) (columns at : ℕ) where
   unfolding readable
   checked-start = record { within = omega arith; is = refl }
 
-  module _ {good : Bool} {k w : ℕ} (q : Checked l columns at good k) (e : w ≡ widthOf columns) where
+  module _ {good : Bool} {k w : ℕ} (q : Checked l columns at good k) (e : w ≡ lineBytes columns) where
     pub checked-more : {b : Bool} → k < w → b ≡ belongs columns k (getD l (at + k) 0) → Checked l columns at (good && b) (k + 1)
     unfolding readable
     checked-more h f = record { within = omega (arith, e, q .within); is = rw (add-one k, q .is, f) }
 
     pub checked-end : w ≤ k → good ≡ isLine l columns at
-    checked-end h = q .is ∙ ap (readable l columns at) {x = k} {y = widthOf columns} (omega (arith, e, q .within))
+    checked-end h = q .is ∙ ap (readable l columns at) {x = k} {y = lineBytes columns} (omega (arith, e, q .within))
 
 -- a line that is not there, one that cannot be read, one that can
 module _ (l : List ℕ) (columns i : ℕ) {n : ℕ} (e : n ≡ linesOf l columns) where
@@ -66,15 +66,15 @@ module _ (l : List ℕ) (columns i : ℕ) {n : ℕ} (e : n ≡ linesOf l columns
     unfolding numberAt
     no-column j f = rw (lt-ltb i (linesOf l columns) there, le-ltb j columns f)
 
-    module _ {w : ℕ} (g : w ≡ widthOf columns) where
-      pub line-ends : i * w + widthOf columns ≤ length l
+    module _ {w : ℕ} (g : w ≡ lineBytes columns) where
+      pub line-ends : i * w + lineBytes columns ≤ length l
       line-ends = inside (length l) columns g (rw g there)
 
       pub the-number : (j : ℕ) {v : ℕ} → j < columns → v ≡ written l (i * w + j * 17 + 2) 16 → v ≡ numberAt l columns i j
       unfolding numberAt
       the-number j f r = rw (lt-ltb i (linesOf l columns) there, lt-ltb j columns f, r, g)
 
-      line-is : {b : Bool} → b ≡ isLine l columns (i * w) → isLine l columns (i * widthOf columns) ≡ b
+      line-is : {b : Bool} → b ≡ isLine l columns (i * w) → isLine l columns (i * lineBytes columns) ≡ b
       line-is s = ap (λ (v : ℕ). isLine l columns (i * v)) (sym g) ∙ sym s
 
       pub the-letter : {b : Bool} → b ≡ isLine l columns (i * w) → b ≡ true → getD l (i * w) 0 ≡ letterAt l columns i

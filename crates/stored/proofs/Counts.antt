@@ -8,19 +8,19 @@ use native.Mathlib.Nat.{le-div-iff-mul-le}
 use native.Mathlib.Omega.{arith}
 use lib.ListN.{length, getD}
 use borrow.Author.Tests.{eq-eqb, ne-eqb}
-use Rattle.stored.specs.Lines.{widthOf, agreesAt, hitAt, hits, countOf}
+use Rattle.stored.specs.Lines.{lineBytes, agreesAt, hitAt, hits, hitCount}
 
 -- line i of a text of n bytes ends in it
-pub inside : (n columns : ℕ) {w i : ℕ} → w ≡ widthOf columns → i < n / w → i * w + widthOf columns ≤ n
+pub inside : (n columns : ℕ) {w i : ℕ} → w ≡ lineBytes columns → i < n / w → i * w + lineBytes columns ≤ n
 inside n columns {w} {i} e h = go (le-div-iff-mul-le {k = w} (omega arith) .0 h)
   where
-    go : suc i * w ≤ n → i * w + widthOf columns ≤ n
+    go : suc i * w ≤ n → i * w + lineBytes columns ≤ n
     go h = omega (arith, ap (λ (v : ℕ). i * v) e)
 
 module _ (l : List ℕ) (columns letter : ℕ) (good : Bool) where
   -- what is known when i lines are counted
   pub record Counted (n i : ℕ) : Type 0 where
-    pub within : i ≤ length l / widthOf columns
+    pub within : i ≤ length l / lineBytes columns
     pub is : n ≡ hits l columns letter good i
     pub most : n ≤ i
 
@@ -28,16 +28,16 @@ module _ (l : List ℕ) (columns letter : ℕ) (good : Bool) where
   unfolding hits
   counted-start = record { within = omega arith; is = refl; most = omega arith }
 
-  module _ {n i w : ℕ} (k : Counted n i) (e : w ≡ widthOf columns) where
-    pub counted-end : length l / w ≤ i → n ≡ countOf l columns letter good
-    unfolding countOf
-    counted-end h = k .is ∙ ap (hits l columns letter good) {x = i} {y = length l / widthOf columns} (omega (arith, k .within, rw e at h))
+  module _ {n i w : ℕ} (k : Counted n i) (e : w ≡ lineBytes columns) where
+    pub counted-end : length l / w ≤ i → n ≡ hitCount l columns letter good
+    unfolding hitCount
+    counted-end h = k .is ∙ ap (hits l columns letter good) {x = i} {y = length l / lineBytes columns} (omega (arith, k .within, rw e at h))
 
     module _ (h : i < length l / w) {b : Bool} (t : b ≡ hitAt l columns (i * w) letter good) where
-      one-more : i + 1 ≤ length l / widthOf columns
+      one-more : i + 1 ≤ length l / lineBytes columns
       one-more = omega (arith, rw e at h)
 
-      is-hit : hitAt l columns (i * widthOf columns) letter good ≡ b
+      is-hit : hitAt l columns (i * lineBytes columns) letter good ≡ b
       is-hit = ap (λ (v : ℕ). hitAt l columns (i * v) letter good) (sym e) ∙ sym t
 
       pub counted-hit : b ≡ true → Counted (n + 1) (i + 1)

@@ -8,10 +8,10 @@ use native.Mathlib.Omega.{arith}
 use native.Mathlib.Nat.{pow-le-pow-right}
 use lib.Dec.{ltb}
 use lib.ListN.{getD}
-use Rattle.stored.specs.Lines.{digitOf, written}
+use Rattle.stored.specs.Lines.{digitValue, written}
 
-pub digit-below : (c : ℕ) → digitOf c < 16
-unfolding digitOf
+pub digit-below : (c : ℕ) → digitValue c < 16
+unfolding digitValue
 digit-below c = go (ltb c 58)
   where
     go : (b : Bool) → cond b (c % 16) ((c + 9) % 16) < 16
@@ -38,7 +38,7 @@ pub read-start : (l : List ℕ) (at : ℕ) → Read l at 0 0
 unfolding written
 read-start l at = record { low = omega arith; is = refl; below = omega arith }
 
-pub read-more : {l : List ℕ} {at n k d : ℕ} → Read l at n k → k < 16 → d ≡ digitOf (getD l (at + k) 0) → Read l at (n * 16 + d) (k + 1)
+pub read-more : {l : List ℕ} {at n k d : ℕ} → Read l at n k → k < 16 → d ≡ digitValue (getD l (at + k) 0) → Read l at (n * 16 + d) (k + 1)
 unfolding written
 read-more {l} {at} {n} {k} {d} r h e = record {
   low = omega arith;

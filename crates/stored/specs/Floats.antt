@@ -42,5 +42,5 @@ answers a b =
     ∷ []
 
 -- a letter is 1 to 26 past a multiple of 32, small (97 to 122) or capital (65 to 90)
-unfoldable pub answerOf : ℕ → ℕ → ℕ → ℕ
-answerOf letter a b = getD (answers a b) (letter % 32) 0
+unfoldable pub floatAnswer : ℕ → ℕ → ℕ → ℕ
+floatAnswer letter a b = getD (answers a b) (letter % 32) 0

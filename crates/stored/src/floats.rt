@@ -3,7 +3,7 @@ ghost use mathlib.Core.Path.{_≡_};
 ghost use Prim.Native.Nat.{_%_};
 ghost use lib.Ieee as Ieee;
 ghost use lib.Ieee.{binary32, binary64};
-ghost use Rattle.stored.specs.Floats.{single, double, flag, answerOf};
+ghost use Rattle.stored.specs.Floats.{single, double, flag, floatAnswer};
 
 // The f32 with the pattern in a's lower half, or NaN.
 pub fn to_single(a: u64) -> f32
@@ -51,7 +51,7 @@ fn of_bool(b: bool) -> u64
 
 // What the helper with this letter answers, as a pattern.
 pub fn answer(letter: u8, a: u64, b: u64) -> u64
-    ensures { λ r. ⌜ r ≡ answerOf letter a b ⌝ }
+    ensures { λ r. ⌜ r ≡ floatAnswer letter a b ⌝ }
 {
     let x = to_single(a);
     let y = to_single(b);

@@ -10,9 +10,9 @@ use libc::STDOUT_FILENO;
 ghost use mathlib.Core.Path.{_≡_};
 ghost use Prim.Native.Nat.{_+_, _*_, _<_, _≤_};
 ghost use lib.ListN.{length};
-ghost use Rattle.stored.specs.Lines.{isDigit, isLetter, digitOf, written, widthOf, belongs, isLine, agreesAt, hitAt};
+ghost use Rattle.stored.specs.Lines.{isDigit, isLetter, digitValue, written, lineBytes, belongs, isLine, agreesAt, hitAt};
 ghost use Rattle.stored.specs.Floats.{single, signed};
-ghost use Rattle.stored.specs.Lines.{countOf, linesOf, letterAt, numberAt};
+ghost use Rattle.stored.specs.Lines.{hitCount, linesOf, letterAt, numberAt};
 
 fn is_digit(c: u8) -> bool
     ensures { λ r. ⌜ r ≡ isDigit c ⌝ }
@@ -44,7 +44,7 @@ fn is_placed(columns: u8, k: usize, c: u8) -> bool
 
 // Whether the bytes from place at on are a line.
 fn is_line(text: &[u8], columns: u8, at: usize) -> bool
-    requires { ⌜ at + widthOf columns ≤ length (now text) ⌝ }
+    requires { ⌜ at + lineBytes columns ≤ length (now text) ⌝ }
     ensures { λ r. ⌜ r ≡ isLine (now (text .entry)) columns at ⌝ }
 {
     let width = width(columns);
@@ -59,7 +59,7 @@ fn is_line(text: &[u8], columns: u8, at: usize) -> bool
 
 // What the digit c stands for.
 fn digit(c: u8) -> u64
-    ensures { λ r. ⌜ r ≡ digitOf c ⌝ }
+    ensures { λ r. ⌜ r ≡ digitValue c ⌝ }
 {
     let d = c as u64;
     if d < 58 { d % 16 } else { (d + 9) % 16 }
@@ -81,7 +81,7 @@ pub fn column(text: &[u8], at: usize) -> u64
 
 // Whether the answer in the line at place at is the library's.
 fn agrees(text: &[u8], columns: u8, at: usize) -> bool
-    requires { ⌜ at + widthOf columns ≤ length (now text) ⌝ }
+    requires { ⌜ at + lineBytes columns ≤ length (now text) ⌝ }
     ensures { λ r. ⌜ r ≡ agreesAt (now (text .entry)) columns at ⌝ }
 {
     if columns < 3 {
@@ -97,7 +97,7 @@ fn agrees(text: &[u8], columns: u8, at: usize) -> bool
 
 // Whether the line at place at has the letter, and agrees or not as `good` says.
 fn hit(text: &[u8], columns: u8, at: usize, letter: u8, good: bool) -> bool
-    requires { ⌜ at + widthOf columns ≤ length (now text) ⌝ }
+    requires { ⌜ at + lineBytes columns ≤ length (now text) ⌝ }
     ensures { λ r. ⌜ r ≡ hitAt (now (text .entry)) columns at letter good ⌝ }
 {
     if text[at] != letter {
@@ -107,7 +107,7 @@ fn hit(text: &[u8], columns: u8, at: usize, letter: u8, good: bool) -> bool
 }
 
 fn width(columns: u8) -> usize
-    ensures { λ r. ⌜ r ≡ widthOf columns ⌝ }
+    ensures { λ r. ⌜ r ≡ lineBytes columns ⌝ }
 {
     (columns as usize) * 17 + 2
 }
@@ -165,7 +165,7 @@ pub fn int_in(text: &[u8], columns: u8, i: usize, j: u8) -> i32
 
 // How many lines have the letter and agree, or do not, as `good` says.
 pub fn count(text: &[u8], columns: u8, letter: u8, good: bool) -> usize
-    ensures { λ r. ⌜ r ≡ countOf (now (text .entry)) columns letter good ⌝ }
+    ensures { λ r. ⌜ r ≡ hitCount (now (text .entry)) columns letter good ⌝ }
 {
     let width = width(columns);
     let lines = text.len() / width;

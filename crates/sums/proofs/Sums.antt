@@ -11,7 +11,7 @@ use lib.Ieee.{Float, binary32, binary64, add}
 use Rattle.quantile.specs.Tally.{tally}
 use Rattle.quantile.specs.Rising.{at}
 use Rattle.ieee.specs.Numbers.{plusZero}
-use Rattle.sums.specs.Admitted.{threshold, cut, keeps, value, blockSum, blocksSum, blocks, totalOf, admittedBy, admittedAt}
+use Rattle.sums.specs.Admitted.{threshold, cut, keeps, value, blockSum, blocksSum, blocks, totalWith, admittedBy, admittedAt}
 use Rattle.sums.proofs.Counts.{tally-few, tally-add}
 
 module _ (t c : Float) (g o : List Float) where
@@ -78,10 +78,10 @@ module _ {t c : Float} {g o : List Float} {s : Float} {n i : ℕ} (I : Added t c
       next : (i l m : ℕ) → i * 256 < l → m ≡ min 256 (l - i * 256) → i * 256 + m ≡ min ((i + 1) * 256) l
       next i l m h e = omega arith
 
-  pub added-end : (gv ov : Float) → t ≡ threshold gv → c ≡ cut ov → length g ≤ i * 256 → totalOf n s ≡ admittedAt g o gv ov
+  pub added-end : (gv ov : Float) → t ≡ threshold gv → c ≡ cut ov → length g ≤ i * 256 → totalWith n s ≡ admittedAt g o gv ov
   added-end gv ov p q h =
-      ap (λ (x : ℕ). totalOf x s) (I .count ∙ ap (tally (kept t c g o)) (all i (length g) h))
-      ∙ ap (totalOf (tally (kept t c g o) (length g))) (I .sum ∙ ap (blocksSum t c g o) (last i (length g) (I .low) h))
+      ap (λ (x : ℕ). totalWith x s) (I .count ∙ ap (tally (kept t c g o)) (all i (length g) h))
+      ∙ ap (totalWith (tally (kept t c g o) (length g))) (I .sum ∙ ap (blocksSum t c g o) (last i (length g) (I .low) h))
       ∙ ap (λ (x : Float). admittedBy x c g o) p ∙ ap (λ (x : Float). admittedBy (threshold gv) x g o) q
     where
       all : (i l : ℕ) → l ≤ i * 256 → min (i * 256) l ≡ l

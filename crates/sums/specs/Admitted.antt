@@ -44,16 +44,16 @@ blocksSum t c g o (suc i) = add binary64 (blocksSum t c g o i) (blockSum t c g o
 abbrev pub blocks : ℕ → ℕ
 blocks n = (n + 255) / 256
 
-abbrev pub totalOf : ℕ → Float → Total
-totalOf n sum = record { n = n; sum = sum }
+abbrev pub totalWith : ℕ → Float → Total
+totalWith n sum = record { n = n; sum = sum }
 
 -- no windows
 abbrev pub noTotal : Total
-noTotal = totalOf 0 plusZero
+noTotal = totalWith 0 plusZero
 
 -- how many windows are admitted, and their sum by blocks
 abbrev pub admittedBy : Float → Float → List Float → List Float → Total
-admittedBy t c g o = totalOf (tally (λ (k : ℕ). keeps t c (at g k) (at o k)) (length g)) (blocksSum t c g o (blocks (length g)))
+admittedBy t c g o = totalWith (tally (λ (k : ℕ). keeps t c (at g k) (at o k)) (length g)) (blocksSum t c g o (blocks (length g)))
 
 abbrev pub admittedAt : List Float → List Float → Float → Float → Total
 admittedAt g o gateVar opVar = admittedBy (threshold gateVar) (cut opVar) g o

@@ -10,7 +10,7 @@ use Rattle.ieee.specs.Numbers.{plusZero, f64Of}
 use Rattle.ieee.specs.Order.{larger, totalLess, negative}
 use Rattle.laws.specs.Lists.{from}
 use Rattle.quantile.specs.Quantile.{quiet}
-use Rattle.sums.specs.Admitted.{threshold, cut, keeps, totalOf, admittedAt}
+use Rattle.sums.specs.Admitted.{threshold, cut, keeps, totalWith, admittedAt}
 use Rattle.sums.specs.Start.{mean, meanQuiet, start}
 use Rattle.sums.specs.declared.Total.{Total}
 
@@ -37,7 +37,7 @@ on-both = (refl, refl, refl)
 
 -- the first variance is the gate's, the second the output's
 pub each-its-own : admittedAt (f64Of 1999 ∷ f64Of 3999 ∷ []) (f64Of 3200 ∷ f64Of 1 ∷ []) (f64Of 100) (f64Of 200)
-    ≡ totalOf 1 (f64Of 3200)
+    ≡ totalWith 1 (f64Of 3200)
 unfolding threshold cut convert mul larger lt le eq add ofInt round
 each-its-own = refl
 
@@ -51,7 +51,7 @@ gates = from (λ (k : ℕ). cond (eqb k 1) (f64Of 20971520) (f64Of 0)) 0 257
 abbrev squares : List Float
 squares = from (λ (k : ℕ). cond (eqb k 0) (f64Of 16777216) (f64Of 1)) 0 257
 
-pub blocks-apart : admittedAt gates squares (f64Of 1048576) (f64Of 1048576) ≡ totalOf 256 (f64Of 16777217)
+pub blocks-apart : admittedAt gates squares (f64Of 1048576) (f64Of 1048576) ≡ totalWith 256 (f64Of 16777217)
 unfolding threshold cut convert mul larger lt le eq add ofInt round
 blocks-apart = refl
 

@@ -20,7 +20,7 @@ use Rattle.levels.proofs.Constants.{zero-is}
 use Rattle.disk.specs.Rows.{inRows}
 use Rattle.tile.specs.declared.PixelTile.{PixelTile}
 use Rattle.tile.specs.Refusal.{refusal}
-use Rattle.tile.specs.Tile.{tile, loaded, Bytes}
+use Rattle.tile.specs.Tile.{tile, loaded, ByteSamples}
 
 module _ (pixels w h : ℕ) (origin centre : List ℤ) where
   module _ {r : ℕ} (e : r ≡ imageNumber pixels w h) where
@@ -70,7 +70,7 @@ pixel-small l w h o x y b = cond-both (λ (n : ℕ). n ≤ 255) (eqb w 0 || eqb 
 module _ (l : List ℕ) (w h : ℕ) (origin centre : List ℤ) (b : (i : ℕ) → getD l i 0 ≤ 255) {r : ℕ} (e : r ≡ refusal (length l) w h origin centre) (samples : List Float) where
   -- the tile of a refused image
   pub with-number : (r ≡ 0 → ⊥) → samples ≡ replicate 289 (ofBits binary32 0)
-      → (_≡_ {A = PixelTile} (record { refused = r; samples = samples }) (loaded l w h origin centre)) × Bytes samples
+      → (_≡_ {A = PixelTile} (record { refused = r; samples = samples }) (loaded l w h origin centre)) × ByteSamples samples
   unfolding loaded
   with-number n s = (
     (λ i. record { refused = e i; samples = (s ∙ ap (replicate 289) zero-is) i }) ∙ passed (eqb (refusal (length l) w h origin centre) 0) _ _ (ne-eqb (refusal (length l) w h origin centre) 0 (λ z. n (e ∙ z))),
@@ -84,7 +84,7 @@ module _ (l : List ℕ) (w h : ℕ) (origin centre : List ℤ) (b : (i : ℕ) �
 
   -- the tile of any other
   pub with-samples : r ≡ 0 → samples ≡ inRows (tile l w h origin centre) 289
-      → (_≡_ {A = PixelTile} (record { refused = r; samples = samples }) (loaded l w h origin centre)) × Bytes samples
+      → (_≡_ {A = PixelTile} (record { refused = r; samples = samples }) (loaded l w h origin centre)) × ByteSamples samples
   unfolding loaded
   with-samples z s = (
     (λ i. record { refused = z i; samples = s i }) ∙ chosen (eqb (refusal (length l) w h origin centre) 0) _ _ (eq-eqb (refusal (length l) w h origin centre) 0 (sym e ∙ z)),

@@ -10,7 +10,7 @@ use Rattle.ieee.specs.Sqrt.{sqrt}
 use Rattle.imageview.specs.Sample.{clamped, pixel}
 use Rattle.tile.specs.Refusal.{refusal}
 use Rattle.tile.specs.Tile.{tile}
-use Rattle.tile.specs.Width.{pi, rootTwoPi, widthOf}
+use Rattle.tile.specs.Width.{pi, rootTwoPi, edgeWidthOf}
 
 pub patterns : (pi ≡ ofBits binary32 0x4049_0fdb) × (rootTwoPi ≡ ofBits binary32 0x4020_6c99)
 unfolding ofBits ofInt round mul sqrt
@@ -18,8 +18,8 @@ patterns = (refl, refl)
 
 -- One quotient by one product: two quotients, a difference of quotients and a quotient or a root in f64 differ in the first,
 -- a product with 1 over it in the second.
-pub quotients : (widthOf (f32Of 3) (f32Of 1) (f32Of 3) ≡ ofBits binary32 0x3e88_2c1b)
-    × (widthOf (f32Of 4) (f32Of 1) (f32Of 1) ≡ ofBits binary32 0x3f99_319f)
+pub quotients : (edgeWidthOf (f32Of 3) (f32Of 1) (f32Of 3) ≡ ofBits binary32 0x3e88_2c1b)
+    × (edgeWidthOf (f32Of 4) (f32Of 1) (f32Of 1) ≡ ofBits binary32 0x3f99_319f)
 unfolding ofBits ofInt round sub mul div sqrt
 quotients = (refl, refl)
 

@@ -26,5 +26,5 @@ loaded l w h origin centre =
     (record { refused = refusal (length l) w h origin centre; samples = replicate 289 (f32Of 0) })
 
 -- each of 289 samples is a byte
-abbrev pub Bytes : List Float → Type 0
-Bytes samples = (k : ℕ) → k < 289 → Upto 255 (getD samples k nan)
+abbrev pub ByteSamples : List Float → Type 0
+ByteSamples samples = (k : ℕ) → k < 289 → Upto 255 (getD samples k nan)

@@ -22,14 +22,14 @@ abbrev pub rootTwoPi : Float
 rootTwoPi = sqrt binary32 (mul binary32 (f32Of 2) pi)
 
 -- the contrast over the root times the gradient mean
-abbrev pub widthOf : Float → Float → Float → Float
-widthOf high low g = div binary32 (sub binary32 high low) (mul binary32 rootTwoPi g)
+abbrev pub edgeWidthOf : Float → Float → Float → Float
+edgeWidthOf high low g = div binary32 (sub binary32 high low) (mul binary32 rootTwoPi g)
 
 -- 9 where the gradient mean is zero
 abbrev pub edgeOf : (ℕ → ℕ → Float) → EdgeWidth
 edgeOf s =
     cond (lt (f32Of 0) (steepness (gradients s)))
-    (Width (widthOf (highLevel (values s)) (lowLevel (values s)) (steepness (gradients s))))
+    (Width (edgeWidthOf (highLevel (values s)) (lowLevel (values s)) (steepness (gradients s))))
     (Refused 9)
 
 -- of a tile that is refused, the number

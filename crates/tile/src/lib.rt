@@ -6,7 +6,7 @@ ghost use lib.IntN.{pos, natAbs, _+ℤ_, _-ℤ_};
 ghost use Rattle.laws.specs.Lists.{from, laid};
 ghost use Rattle.imageview.specs.Sample.{clamped};
 ghost use Rattle.tile.specs.Refusal.{refusal};
-ghost use Rattle.tile.specs.Tile.{Bytes, loaded};
+ghost use Rattle.tile.specs.Tile.{ByteSamples, loaded};
 ghost use Rattle.tile.specs.Picked.{picked, run};
 ghost use Rattle.tile.specs.Width.{rootTwoPi, edgeOfTile};
 use imageview::ImageView;
@@ -100,7 +100,7 @@ impl PixelTile {
     pub fn load(img: ImageView, centre: [i32; 2]) -> Self
         ensures { λ r. ⌜ (r ≡
             loaded (now (img .entry .pixels)) (img .entry .width) (img .entry .height) (img .entry .origin) centre)
-            × Bytes (r .samples) ⌝ }
+            × ByteSamples (r .samples) ⌝ }
     {
         Self::load_at(img.pixels, img.width, img.height, img.origin, centre)
     }
@@ -113,7 +113,7 @@ impl PixelTile {
         origin: [i32; 2],
         centre: [i32; 2],
     ) -> Self
-        ensures { λ r. ⌜ (r ≡ loaded (now (pixels .entry)) width height origin centre) × Bytes (r .samples) ⌝ }
+        ensures { λ r. ⌜ (r ≡ loaded (now (pixels .entry)) width height origin centre) × ByteSamples (r .samples) ⌝ }
     {
         let mut samples = [0.0f32; 289];
         let refused = judge(pixels.len(), width, height, origin, centre);
@@ -145,7 +145,7 @@ impl PixelTile {
 
     // The width of the edges on the tile's disk, or a number.
     pub fn edge_width(self) -> EdgeWidth
-        requires { ⌜ Bytes (self .samples) ⌝ }
+        requires { ⌜ ByteSamples (self .samples) ⌝ }
         ensures { λ r. ⌜ r ≡ edgeOfTile self ⌝ }
     {
         let refused = self.refused;

@@ -38,7 +38,7 @@ use denote.Exit.{yes}
 use Rattle.imageview.specs.declared.ImageView.{ImageView}
 use Rattle.imageview.proofs.ImageView as T
 use Rattle.imageview.proofs.ImageView.Laws as T′
-use Rattle.tile.specs.Tile.{loaded, Bytes}
+use Rattle.tile.specs.Tile.{loaded, ByteSamples}
 use Rattle.tile.specs.Width.{edgeOfTile}
 use Rattle.tile.specs.declared.EdgeWidth.{EdgeWidth}
 use Rattle.tile.specs.declared.PixelTile.{PixelTile}
@@ -123,7 +123,7 @@ module _ {M : Type 1} (𝓤 : URA M) (H : Heap 𝓤) (A : Atoms 𝓤) (W : Given
       move ! (3 ∷ 0 ∷ []) $ use2 W (raw (New 𝓤 H A mem run .pre to-new)) asked-new $ frame ! $ fjoin ! $ done !
 
   abbrev Made : PixelTile → Type 0
-  Made t = (t ≡ loaded (now (d .pixels)) (d .width) (d .height) (d .origin) c) × Bytes (t .samples)
+  Made t = (t ≡ loaded (now (d .pixels)) (d .width) (d .height) (d .origin) c) × ByteSamples (t .samples)
 
   new-said : (t : PixelTile) → ent 𝓤 (ensured 𝓤 H A new.ended (new.clauses 𝓤 H A mem run) (κ, tt) (d, (c, tt)) tt t) (fact 𝓤 (Made t))
   new-said t = exE 𝓤 _ (λ ws. snd∗ 𝓤 (sem 𝓤 H A (lasts new.ended (κ, tt) (d, (c, tt)) ws)) (fact 𝓤 (Made t)))

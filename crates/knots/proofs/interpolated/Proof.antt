@@ -5,15 +5,15 @@ use Prim.Native.Nat.{_+_, _<_}
 use native.Mathlib.Omega.{arith}
 use borrow.Author.Needs.{needs}
 use Rattle.knots.specs.Places.{valueAt}
-use Rattle.knots.specs.Loops.{Inside}
+use Rattle.knots.specs.Loops.{AmongKnots}
 use Rattle.knots.proofs.interpolated.Statement.{statement}
 use Rattle.knots.proofs.interpolated.Tie as tie
 
 knot : (c : tie.After-p) → c .p .given .0 .0 < 16
-knot c = subst (Inside 16) (c .p .given .1) (c .before .before .pre)
+knot c = subst (AmongKnots 16) (c .p .given .1) (c .before .before .pre)
 
 next : (c : tie.After-p2) → c .p2 .given .0 .0 + 1 < 16
-next c = subst (Inside 16) (c .p2 .given .1) (c .before .before .pre)
+next c = subst (AmongKnots 16) (c .p2 .given .1) (c .before .before .pre)
 
 enum-known-p : tie.Need-enum-known-p
 enum-known-p c = search needs

@@ -7,7 +7,7 @@ use Rattle.lid_bytes.specs.declared.Input.{Input}
 use Rattle.lid_bytes.specs.declared.Input.the-variants.{Image, Refused}
 use Rattle.lid_bytes.specs.Input.{pixelsOf, parsedOf}
 use Rattle.answer.specs.declared.Answer.{Answer}
-use Rattle.lid.specs.Answer.{answerBy, lidAnswer}
+use Rattle.lid.specs.Answer.{answerParsed, lidAnswer}
 use Rattle.lid_bytes.proofs.Inputs.{image-has}
 use borrow.Author.Needs.{needs}
 use Rattle.lid.proofs.answer_to.Statement.{statement}
@@ -18,9 +18,9 @@ use Rattle.lid.proofs.measure_from.Reads as measure-from-reads
 use Rattle.lid_bytes.proofs.parse.Reads as parse-reads
 use Rattle.noise.proofs.refuse.Reads as refuse-reads
 
-as-parsed : (input : List ℕ) (p : Input) {r : Answer} → r ≡ answerBy (pixelsOf input) p → p ≡ parsedOf input → r ≡ lidAnswer input
+as-parsed : (input : List ℕ) (p : Input) {r : Answer} → r ≡ answerParsed (pixelsOf input) p → p ≡ parsedOf input → r ≡ lidAnswer input
 unfolding lidAnswer
-as-parsed input p d e = d ∙ ap (answerBy (pixelsOf input)) e
+as-parsed input p d e = d ∙ ap (answerParsed (pixelsOf input)) e
 
 parse-requires : tie.Need-parse-requires
 parse-requires c κs = search needs

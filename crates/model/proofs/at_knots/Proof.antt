@@ -1,14 +1,14 @@
 -- Each column at the width's place, which lies among the knots. Assumes nothing.
 use mathlib.Core.Path.{sym, subst}
 use borrow.Author.Needs.{needs}
-use Rattle.knots.specs.Loops.{Inside}
+use Rattle.knots.specs.Loops.{AmongKnots}
 use Rattle.knots.proofs.Tables.{place-in}
 use Rattle.model.proofs.Formulas.{pair-is}
 use Rattle.model.proofs.at_knots.Statement.{statement}
 use Rattle.model.proofs.at_knots.Tie as tie
 
-among : (c : tie.After-place-of) → Inside 16 (c .place-of .result)
-among c = subst (Inside 16) (sym (c .place-of .ensures)) (place-in _ _ 16 _ (c .before .pre .0) (c .before .pre .1))
+among : (c : tie.After-place-of) → AmongKnots 16 (c .place-of .result)
+among c = subst (AmongKnots 16) (sym (c .place-of .ensures)) (place-in _ _ 16 _ (c .before .pre .0) (c .before .pre .1))
 
 place-of-requires : tie.Need-place-of-requires
 place-of-requires c κs = search needs

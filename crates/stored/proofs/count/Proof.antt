@@ -5,7 +5,7 @@ use native.Mathlib.Omega.{arith}
 use mathlib.Core.Logic.{⊎-elim}
 use Prim.Native.Nat.{_+_, _-_, _*_, _<_, _≤_}
 use lib.ListN.{length}
-use Rattle.stored.specs.Lines.{widthOf}
+use Rattle.stored.specs.Lines.{lineBytes}
 use Rattle.stored.proofs.Counts.{Counted, counted-start, counted-hit, counted-miss, counted-end, inside}
 use Rattle.stored.proofs.count.Statement.{statement}
 use Rattle.stored.proofs.count.Tie as tie
@@ -21,7 +21,7 @@ few : (c : tie.In-loop Inv-loop μ-loop) → c .before .loop .i < length (c .bef
 few c = lt-of-lt-of-le (c .loop-test .taken) (div-le-self _ _)
 
 -- where the line of this turn ends
-ends : (c : tie.In-loop Inv-loop μ-loop) → c .before .loop .i * c .before .before .width .result + widthOf (c .before .before .before .before .args .columns) ≤ length (c .before .before .before .before .args .text .now)
+ends : (c : tie.In-loop Inv-loop μ-loop) → c .before .loop .i * c .before .before .width .result + lineBytes (c .before .before .before .before .args .columns) ≤ length (c .before .before .before .before .args .text .now)
 ends c = inside _ _ (c .before .before .width .ensures) (c .loop-test .taken)
 
 width-requires : tie.Need-width-requires Inv-loop μ-loop

@@ -2,7 +2,7 @@
 use borrow.Author.Tests.{lt-ltb, le-ltb}
 use borrow.Author.Needs.{needs}
 use Rattle.laws.proofs.Choice.{chosen, passed}
-use Rattle.stored.specs.Lines.{digitOf}
+use Rattle.stored.specs.Lines.{digitValue}
 use Rattle.stored.proofs.digit.Statement.{statement}
 use Rattle.stored.proofs.digit.Tie as tie
 
@@ -10,11 +10,11 @@ add-result : tie.Need-add-result
 add-result c = search needs
 
 returns : tie.Need-returns
-unfolding digitOf
+unfolding digitValue
 returns c = chosen _ _ _ (lt-ltb _ _ (c .if1 .taken))
 
 returns-2 : tie.Need-returns-2
-unfolding digitOf
+unfolding digitValue
 returns-2 c = passed _ _ _ (le-ltb _ _ (c .if1 .left))
 
 pub digit-spec : {M : Type 1} → statement M

@@ -3,7 +3,7 @@ use borrow.Author.Needs.{needs}
 use native.Mathlib.Omega.{arith}
 use Prim.Native.Nat.{_+_, _*_, _≤_}
 use lib.ListN.{length}
-use Rattle.stored.specs.Lines.{widthOf}
+use Rattle.stored.specs.Lines.{lineBytes}
 use Rattle.stored.proofs.Bytes.{no-letter, the-letter, not-a-line, line-ends}
 use Rattle.stored.proofs.letter.Statement.{statement}
 use Rattle.stored.proofs.letter.Tie as tie
@@ -15,7 +15,7 @@ returns : tie.Need-returns
 returns c = no-letter _ _ _ (c .before .lines .ensures) (c .if1 .taken)
 
 -- where the line ends
-ends : (c : tie.After-width) → c .before .before .before .before .args .i * c .width .result + widthOf (c .before .before .before .before .args .columns) ≤ length (c .before .before .before .before .args .text .now)
+ends : (c : tie.After-width) → c .before .before .before .before .args .i * c .width .result + lineBytes (c .before .before .before .before .args .columns) ≤ length (c .before .before .before .before .args .text .now)
 ends c = line-ends (c .before .before .before .before .args .text .now) _ _ (c .before .before .lines .ensures) (c .before .if1 .left) (c .width .ensures)
 
 width-requires : tie.Need-width-requires

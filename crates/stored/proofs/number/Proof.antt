@@ -3,7 +3,7 @@ use borrow.Author.Needs.{needs}
 use native.Mathlib.Omega.{arith}
 use Prim.Native.Nat.{_+_, _*_, _≤_}
 use lib.ListN.{length}
-use Rattle.stored.specs.Lines.{widthOf}
+use Rattle.stored.specs.Lines.{lineBytes}
 use Rattle.stored.proofs.Bytes.{no-number, no-column, the-number, line-ends}
 use Rattle.stored.proofs.number.Statement.{statement}
 use Rattle.stored.proofs.number.Tie as tie
@@ -18,7 +18,7 @@ returns-2 : tie.Need-returns-2
 returns-2 c = no-column _ _ _ (c .before .before .lines .ensures) (c .before .if1 .left) _ (c .if2 .taken)
 
 -- where the line ends
-ends : (c : tie.After-width) → c .before .before .before .before .before .args .i * c .width .result + widthOf (c .before .before .before .before .before .args .columns) ≤ length (c .before .before .before .before .before .args .text .now)
+ends : (c : tie.After-width) → c .before .before .before .before .before .args .i * c .width .result + lineBytes (c .before .before .before .before .before .args .columns) ≤ length (c .before .before .before .before .before .args .text .now)
 ends c = line-ends (c .before .before .before .before .before .args .text .now) _ _ (c .before .before .before .lines .ensures) (c .before .before .if1 .left) (c .width .ensures)
 
 width-requires : tie.Need-width-requires

@@ -2,7 +2,7 @@
 use mathlib.Core.Path.{sym, _∙_}
 use lib.Ieee.{ofBits}
 use borrow.Author.Needs.{needs}
-use Rattle.gradients.specs.Gradients.{cleared, resetOf}
+use Rattle.gradients.specs.Gradients.{clearedState, resetOf}
 use Rattle.gradients.proofs.Refusals.{kept, changed}
 use Rattle.gradients.proofs.PixelGradients.reset.Statement.{statement}
 use Rattle.gradients.proofs.PixelGradients.reset.Tie as tie
@@ -16,7 +16,7 @@ returns c = let a = c .before .before .args in kept (a .self) _ (c .before .stat
 
 returns-2 : tie.Need-returns-2
 unfolding resetOf ofBits
-returns-2 c = let a = c .before .before .args in changed (a .self) (cleared (a .origin) (a .side)) (sym (c .if1 .left) ∙ c .before .state-number .ensures)
+returns-2 c = let a = c .before .before .args in changed (a .self) (clearedState (a .origin) (a .side)) (sym (c .if1 .left) ∙ c .before .state-number .ensures)
 
 pub reset-spec : {M : Type 1} → statement M
 reset-spec =

@@ -41,7 +41,7 @@ use denote.Triple.Clauses.{ensured, lasts}
 use denote.Exit.{yes}
 use Rattle.imageview.specs.declared.ImageView.{ImageView}
 use Rattle.tile.specs.declared.PixelTile.{PixelTile}
-use Rattle.tile.specs.Tile.{Bytes, loaded}
+use Rattle.tile.specs.Tile.{ByteSamples, loaded}
 use Rattle.imageview.proofs.ImageView as T
 use Rattle.imageview.proofs.ImageView.Laws as T′
 use Rattle.tile.proofs.PixelTile as S
@@ -63,7 +63,7 @@ B κs = T.the-row (namedLft 1 0 tt κs)
 
 -- what is known of the tile
 abbrev Made : RefT (List ℕ) → ℕ → ℕ → List ℤ → List ℤ → PixelTile → Type 0
-Made s w h o c r = (r ≡ loaded (now s) w h o c) × Bytes (r .samples)
+Made s w h o c r = (r ≡ loaded (now s) w h o c) × ByteSamples (r .samples)
 
 abbrev stayed : Stays (fn.ended .signature .params) (fn.ended .kept)
 stayed = (stay-none B yes, (stay-none (λ _. Array i32 2) yes, tt))
