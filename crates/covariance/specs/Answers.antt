@@ -1,4 +1,5 @@
--- Demand 1 at `noise_at` and `total`: 12 refuses exactly where a part is out of its range, used or not; and what comes. Laws: `noise-at-answers`, `total-answers`.
+-- Demand 1 at `noise_at` and `total`: 12 refuses exactly where a part is out of its range, used or not; and what comes. Laws:
+-- `noise-at-answers`, `total-answers`.
 use mathlib.Core.Path.{_≡_}
 use mathlib.Core.Bool.{true, false}
 use mathlib.Core.List.{[], _∷_}

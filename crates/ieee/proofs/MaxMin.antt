@@ -1,7 +1,7 @@
 -- `larger` and `smaller` give one of their operands, not below (above) either, the other one beside a NaN, and the first of two that are equal, -0 and +0 among them.
 -- Both pick the second operand only where a relation R says that it is past the first; R is `<` for `larger` and `>` for `smaller`.
 use mathlib.Core.Path.{_≡_, refl, sym, ap, _∙_}
-use mathlib.Core.Logic.{_⊎_, inl, inr}
+use mathlib.Core.Logic.{inl, inr}
 use mathlib.Core.Bool.{Bool, true, false, cond, _||_, Bool·beq, true≢false, false≢true}
 use Prim.Native.Nat.{ℕ, _+_, _*_}
 use native.Mathlib.Omega.{arith}
@@ -10,7 +10,7 @@ use lib.IntN.{pos}
 use lib.Ieee.{Float, nan, inf, fin, up, down, below, level, lt, eq, isNan}
 use lib.Ieee.Fits.{and-l, and-r}
 use borrow.Author.Tests.{le-ltb}
-use Rattle.ieee.specs.Order.{larger, smaller}
+use Rattle.ieee.specs.Order.{larger, smaller, Picked}
 use Rattle.ieee.proofs.Tests.{yes}
 use Rattle.ieee.proofs.TotalOrder.{transitive, irreflexive, as-less}
 
@@ -77,12 +77,6 @@ record Strict (R : Float → Float → Bool) : Type 0 where
   turned : (x y : Float) → R x y ≡ true → R y x ≡ false
   no-nan : (x : Float) → R x nan ≡ false
   equal : (x y : Float) → eq x y ≡ true → R x y ≡ false
-
--- r is a or b, and neither is past it
-pub record Picked (R : Float → Float → Bool) (a b r : Float) : Type 0 where
-  pub one-of : (r ≡ a) ⊎ (r ≡ b)
-  pub first : R r a ≡ false
-  pub second : R r b ≡ false
 
 is-nan : (x : Float) → isNan x ≡ true → x ≡ nan
 unfolding isNan

@@ -1,4 +1,5 @@
--- What IEEE 754-2019 asks of a rounded result: section 4.3.1, roundTiesToEven. The operation gives the value of the format that is nearest to its exact result.
+-- What IEEE 754-2019 asks of a rounded result: section 4.3.1, roundTiesToEven. The operation gives the value of the format that is
+-- nearest to its exact result.
 use Prim.Native.Nat.{ℕ, suc, _+_, _-_, _*_, _%_, _^_, _≤_, _<_}
 use mathlib.Core.Path.{_≡_}
 use mathlib.Core.Bool.{Bool, true, false, Bool·beq}
@@ -21,7 +22,7 @@ abbrev pub AtMost : Exact → ℕ → ℕ → Type 0
 AtMost (fraction num den) n d = num * d ≤ n * den
 AtMost (rootOf num den) n d = num * (d * d) ≤ n * n * den
 
--- A number of the size n / d is at most t / d away from the exact result: where the two have the same sign, and where they have not.
+-- A number of the size n / d is at most t / d away from the exact result: where the two have the same sign, and where not.
 abbrev pub Within : Bool → Exact → ℕ → ℕ → ℕ → Type 0
 Within true X n t d = AtLeast X (n - t) d × AtMost X (n + t) d
 Within false X n t d = (n ≤ t) × AtMost X (t - n) d

@@ -42,7 +42,8 @@ isLine l columns at = readable l columns at (lineBytes columns)
 -- The line at place at can be read, and holds what its call answers: two columns are the arguments, the third is the answer.
 unfoldable pub agreesAt : List ℕ → ℕ → ℕ → Bool
 agreesAt l columns at =
-    leb 3 columns && isLine l columns at && eqb (floatAnswer (getD l at 0) (written l (at + 2) 16) (written l (at + 19) 16)) (written l (at + 36) 16)
+    leb 3 columns && isLine l columns at
+    && eqb (floatAnswer (getD l at 0) (written l (at + 2) 16) (written l (at + 19) 16)) (written l (at + 36) 16)
 
 abbrev pub hitAt : List ℕ → ℕ → ℕ → ℕ → Bool → Bool
 hitAt l columns at letter good = eqb (getD l at 0) letter && Bool·beq (agreesAt l columns at) good
@@ -60,7 +61,8 @@ hitCount l columns letter good = hits l columns letter good (linesOf l columns)
 
 -- the letter of line i; 0 where there is no such line, or it cannot be read
 unfoldable pub letterAt : List ℕ → ℕ → ℕ → ℕ
-letterAt l columns i = cond (ltb i (linesOf l columns) && isLine l columns (i * lineBytes columns)) (getD l (i * lineBytes columns) 0) 0
+letterAt l columns i =
+    cond (ltb i (linesOf l columns) && isLine l columns (i * lineBytes columns)) (getD l (i * lineBytes columns) 0) 0
 
 -- the number in column j of line i; 0 where there is none
 unfoldable pub numberAt : List ℕ → ℕ → ℕ → ℕ → ℕ
