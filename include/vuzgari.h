@@ -1,54 +1,93 @@
-/* The measuring half of the copy-stand program, for C: libvuzgari.a. examples/lid.c measures a whole lid with it.
+/* The measuring half of the copy-stand program, for C and C++: libvuzgari.a, for x86-64. vuzgari(3) says the same with
+   examples; examples/ has a program for each call.
 
    Each lent slice is a pointer and the number of its elements. What the caller keeps:
    - slices that are lent to one call do not overlap, and nothing else writes to them until it returns;
    - a pointer may be null only where its length is 0; others point to that many elements, aligned for their type;
    - the processor's floating-point mode is the default one (round to nearest, subnormals kept).
    Nothing is kept after a call, nothing is allocated, and a call touches no memory but what it is lent and its stack:
-   calls on memory of their own may run at the same time. Pixels are only read.
-
-   Numbers. The first one that applies is given, in the order that each call names; docs/NUMBERS.md says what to do.
-   0  there is a figure
-   1  a side is above 16,384
-   2  the pixel slice is not w * h long
-   3  noise, sizing: a side is below 4
-   4  noise: a work slice or the answer slice is shorter than needed
-   5  noise: under 512 windows are kept
-   6  noise: 512 or more are kept, and no band has a variance
-   7  noise: the bands that join hold under 512 windows
-   8  edge: a part of the centre or the origin is beyond +-1,000,000
-   9  edge: the patch is flat once it is smoothed, as an empty image is, or stripes one pixel wide */
+   calls on memory of their own may run at the same time. Pixels are only read. */
 #ifndef VUZGARI_H
 #define VUZGARI_H
 
 #include <stddef.h>
 #include <stdint.h>
 
+#if !defined(__x86_64__) && !defined(_M_X64)
+#error "libvuzgari.a is for x86-64"
+#endif
+
 #ifdef __cplusplus
 extern "C" {
 #endif
 
+/* The version of this header; the archive has its own, vuzgari_version(). 0.n promises nothing to programs built with
+   another n: a change of a call raises it. */
+#define VUZGARI_VERSION "0.1"
+
+const char *vuzgari_version(void);
+
+/* Why there is a figure or none. A call gives the first number that applies, in the order that the call names. */
+enum vuzgari_number {
+    VUZGARI_GIVEN = 0,        /* there is a figure */
+    VUZGARI_SIDE_ABOVE = 1,   /* a side is above 16,384 */
+    VUZGARI_OTHER_LENGTH = 2, /* the pixel slice is not width x height long */
+    VUZGARI_SIDE_BELOW = 3,   /* a side is below 4: a window needs 4 by 4 pixels */
+    VUZGARI_SHORT_SLICE = 4,  /* a work slice or the answer slice is too short */
+    VUZGARI_FEW = 5,          /* under 512 windows are kept: the lid is small, or too much of it is near black or white */
+    VUZGARI_NONE = 6,         /* no band of brightness has a variance: there is no quiet area */
+    VUZGARI_THIN = 7,         /* the bands that join hold under 512 windows: there is too little quiet area */
+    VUZGARI_FAR = 8,          /* a part of the centre or of the origin is beyond 1,000,000 either way */
+    VUZGARI_FLAT = 9,         /* the patch is flat once it is smoothed: there is no edge to measure */
+    VUZGARI_SUPPORT = 10,     /* the side of the support is above 32 */
+    VUZGARI_OUTSIDE = 11,     /* the pixel is outside the support */
+    VUZGARI_FLOAT_RANGE = 12, /* a float is outside its range */
+    VUZGARI_NOT_FINITE = 13,  /* a covariance or a model has a component that is not finite */
+    VUZGARI_KNOTS = 14,       /* there is no knot, there are over 16, or their widths do not rise strictly */
+    VUZGARI_NOT_A_LID = 15,   /* the input is not 4 + width x height bytes long */
+    VUZGARI_MANY_PIXELS = 16  /* there are over 4,096 pixels */
+};
+
+/* The sentence of a number, as above, for a person; of any other number, that it is none. It stays valid for ever. */
+const char *vuzgari_reason(uint32_t number);
+
 /* A call that returns a uint64_t returns its figure, which is below this, or this much plus the number. */
 #define VUZGARI_REFUSED UINT64_C(4294967296)
 
-/* How many bytes the noise call's answer takes. */
-#define VUZGARI_ANSWER_BYTES 40
+/* The number in what such a call returned: VUZGARI_GIVEN where it is a figure. */
+uint32_t vuzgari_number_of(uint64_t returned);
 
 /* M: for how many windows the noise call needs work memory on an image of w by h; or VUZGARI_REFUSED plus the first of
    1, 3. M is never above 33,754. */
 uint64_t vuzgari_noise_windows(size_t w, size_t h);
 
+/* How many bytes the noise call's answer takes. */
+#define VUZGARI_ANSWER_BYTES 40
+
 /* The noise of an image of w by h, row by row. Lent are its w * h pixels, at least 3 * M int32_t and 2 * M + 2 float to
    work in, whatever they hold, and at least 40 bytes for the answer. Returns the number: the first of 1, 2, 3, 4, or
    what the passes end in, 0, 5, 6 or 7. After 1 to 4 nothing lent has changed. After the others the first 3 * M int32_t
-   and 2 * M + 2 float are zero, and the first 40 bytes of `answer` are ten fields of 4 bytes, low byte first: the
-   number; sigma, as the bits of a float; milli, the floor of 1,000 times sigma; the windows kept in each of four bands,
-   from dark to bright; rail, the windows dropped near black or white; rounds; passes. Counts are those of the last
-   pass, rounds those of all. Sigma and milli are zero unless the number is 0. What is lent beyond is unchanged: a NaN
-   lent there is proved to stay a NaN, and that its bits stay is tested. */
+   and 2 * M + 2 float are zero, and the first 40 bytes of `answer` are the fields of struct vuzgari_answer, 4 bytes
+   each, low byte first, in its order. What is lent beyond is unchanged: a NaN lent there is proved to stay a NaN, and
+   that its bits stay is tested. */
 uint32_t vuzgari_noise(const uint8_t *pixels, size_t pixels_len, size_t w, size_t h,
                        int32_t *ints, size_t ints_len, float *floats, size_t floats_len,
                        uint8_t *answer, size_t answer_len);
+
+/* The noise call's answer. Counts are those of the last pass, rounds those of all. Sigma and milli are zero unless the
+   number is VUZGARI_GIVEN. */
+struct vuzgari_answer {
+    uint32_t number;
+    float sigma;       /* the noise, in levels of 0 to 255 */
+    uint32_t milli;    /* the floor of 1,000 times sigma */
+    uint32_t bands[4]; /* the windows kept in each band of brightness, from dark to bright */
+    uint32_t rail;     /* the windows dropped near black or white */
+    uint32_t rounds;
+    uint32_t passes;
+};
+
+/* The answer in the first 40 bytes that the noise call wrote. */
+struct vuzgari_answer vuzgari_answer_from(const uint8_t *bytes);
 
 /* The width of the edges about the centre (cx, cy) of an image of w by h, row by row, in pixels, as the bits of a
    float; or VUZGARI_REFUSED plus the first of 1, 2, 8, 9. Lent are its w * h pixels. (ox, oy) is the image's origin:
@@ -56,6 +95,9 @@ uint32_t vuzgari_noise(const uint8_t *pixels, size_t pixels_len, size_t w, size_
    pixel. */
 uint64_t vuzgari_edge_width(const uint8_t *pixels, size_t pixels_len, size_t w, size_t h,
                             int32_t ox, int32_t oy, int32_t cx, int32_t cy);
+
+/* The width in what the edge call returned; 0 where that is no figure. */
+float vuzgari_width_of(uint64_t returned);
 
 #ifdef __cplusplus
 }

@@ -1,5 +1,5 @@
-//! The stored answers of examples/lids, to which the example and the guard test are held, beside the original's. The
-//! images are made here once more, as examples/lids/image.h says.
+//! The stored answers of tests/images, to which the example and the guard test are held, beside the original's. The
+//! images are made here once more, as tests/images/image.h says.
 
 use super::{edge, noise, Run, Topic};
 use std::{fs, rc::Rc};
@@ -21,7 +21,7 @@ struct Image {
 }
 
 fn list(name: &str) -> Vec<Image> {
-    let path = format!("examples/lids/{name}.txt");
+    let path = format!("tests/images/{name}.txt");
     let text = fs::read_to_string(&path).unwrap_or_else(|e| panic!("{path}: {e}"));
     text.lines().filter(|line| !line.starts_with('#')).map(Image::read).collect()
 }

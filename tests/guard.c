@@ -3,7 +3,7 @@
    to a call that is to be refused everything is. An access outside ends the program with the call's name. */
 #define _DEFAULT_SOURCE
 
-#include "lids/image.h"
+#include "images/image.h"
 #include "vuzgari.h"
 
 #include <inttypes.h>
