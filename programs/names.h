@@ -1,5 +1,5 @@
-/* Names of lids, for people and for programs. A name is whatever bytes the system allows, so a name as it is could break
-   a table, a line or the terminal. */
+/* Names of lids, for people and for programs. A name may hold any bytes but 0: as it is, it could break a table, a line
+   or the terminal. */
 #ifndef NAMES_H
 #define NAMES_H
 

@@ -15,34 +15,34 @@ struct cell {
 
 static struct cell cell(bool known, uint64_t number)
 {
-    struct cell cell = {"-"};
+    struct cell shown = {"-"};
     if (known) {
-        snprintf(cell.text, sizeof cell.text, "%" PRIu64, number);
+        snprintf(shown.text, sizeof shown.text, "%" PRIu64, number);
     }
-    return cell;
+    return shown;
 }
 
 /* The figure in levels, from its thousandths. */
 static struct cell noise(const struct lid *lid)
 {
-    struct cell cell = {"-"};
+    struct cell shown = {"-"};
     if (has_figure(lid)) {
         uint32_t milli = lid->answer.milli;
-        snprintf(cell.text, sizeof cell.text, "%" PRIu32 ".%03" PRIu32, milli / 1000, milli % 1000);
+        snprintf(shown.text, sizeof shown.text, "%" PRIu32 ".%03" PRIu32, milli / 1000, milli % 1000);
     }
-    return cell;
+    return shown;
 }
 
 /* Sigma's bits as 8 hex digits. */
 static struct cell sigma(const struct lid *lid)
 {
-    struct cell cell = {"-"};
+    struct cell shown = {"-"};
     if (was_read(lid)) {
         uint32_t bits;
         memcpy(&bits, &lid->answer.sigma, sizeof bits);
-        snprintf(cell.text, sizeof cell.text, "%08" PRIX32, bits);
+        snprintf(shown.text, sizeof shown.text, "%08" PRIX32, bits);
     }
-    return cell;
+    return shown;
 }
 
 static struct cell width(const struct lid *lid)
