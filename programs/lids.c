@@ -1,178 +1,271 @@
-/* lid FILE: measures the noise of a lid through libvuzgari.a.
-
-   FILE has the format of the program lidnoise, with sides up to 16,384: width and height, two bytes each, low first,
-   then the pixels. It is mapped, so it must not become shorter meanwhile. Standard output has lidnoise's two lines;
-   where there is no figure, standard error has the reason. The number is the first that applies: 15 under 4 bytes, 15
-   not 4 + width * height bytes, then the noise call's.
-
-   Status: 0 there is a figure, 1 there is none, 2 the file cannot be mapped, memory ran out, or the lines cannot be
-   written. */
+/* lids: the noise of lids, a row each. lids(1) says what it takes and prints. */
 #define _POSIX_C_SOURCE 200809L
 
-#include "vuzgari.h"
+#include "lid.h"
+#include "measuring.h"
+#include "names.h"
+#include "reasons.h"
+#include "rows.h"
 
-#include <fcntl.h>
 #include <inttypes.h>
-#include <stdbool.h>
 #include <stdio.h>
 #include <stdlib.h>
 #include <string.h>
-#include <sys/mman.h>
-#include <sys/stat.h>
 #include <unistd.h>
 
-enum { HEADER_BYTES = 4, FIELDS = VUZGARI_ANSWER_BYTES / 4, SIGMA = 1, NOT_A_LID = 15 };
+/* 2 wins over 1. */
+enum status { ALL_GIVEN = 0, SOME_WITHOUT = 1, FAILED = 2 };
 
-struct file {
-    uint8_t *bytes; /* null where length is 0 */
-    size_t length;
+/* What the words of the command ask for. */
+struct request {
+    bool help, version, tsv, lidnoise;
+    char **names;
+    size_t count;
 };
 
-/* Maps a plain file, read only. */
-static bool map_open_file(int descriptor, struct file *file)
+static const char help[] =
+    "usage: lids [--tsv] FILE..\n"
+    "       lids --lidnoise FILE\n"
+    "       lids --help | --version\n"
+    "Measures the noise of lids, in levels of 0 to 255, and prints a row a lid.\n"
+    "FILE is a lid: width and height, two bytes each, low first, then the pixels, a\n"
+    "byte each, row by row; sides up to 16,384. - is standard input.\n"
+    "\n"
+    "  --tsv       rows parted by tabs, for programs; no end lines\n"
+    "  --lidnoise  the two lines of lidnoise; the reason is on standard error\n"
+    "  --          ends the options\n"
+    "\n"
+    "  noise           the lower, the more surely pencil is told from grain\n"
+    "  number          0 with a figure, else why there is none, which the end says\n"
+    "  width height    as the header says\n"
+    "  b0 b1 b2 b3     windows kept in each band of brightness, from dark to bright\n"
+    "  rail            windows dropped near black or white\n"
+    "  rounds passes   rounds of averaging; 2 passes where the first has no figure\n"
+    "\n"
+    "Status: 0 all lids have figures, 1 some have none, 2 something could not be read\n"
+    "or written. lids(1) says more.\n";
+
+/* Ends the program with the system's word for what failed. */
+static _Noreturn void stop(const char *what)
 {
-    struct stat status;
-    if (fstat(descriptor, &status) != 0 || !S_ISREG(status.st_mode)) {
-        return false;
+    perror(what);
+    exit(FAILED);
+}
+
+/* A failed write is found here, also an earlier one: the stream remembers. */
+static void flush_output(void)
+{
+    if (fflush(stdout) != 0 || ferror(stdout)) {
+        stop("lids: standard output");
     }
-    *file = (struct file){.bytes = NULL, .length = (size_t)status.st_size};
-    if (file->length == 0) {
-        return true; /* an empty file has nothing to map */
-    }
-    void *bytes = mmap(NULL, file->length, PROT_READ, MAP_PRIVATE, descriptor, 0);
-    file->bytes = bytes;
-    return bytes != MAP_FAILED;
 }
 
-static bool map_file(const char *path, struct file *file)
+static void close_output(void)
 {
-    int descriptor = open(path, O_RDONLY);
-    if (descriptor < 0) {
-        return false;
-    }
-    bool mapped = map_open_file(descriptor, file);
-    close(descriptor);
-    return mapped;
-}
-
-static void unmap_file(struct file *file)
-{
-    if (file->length > 0) {
-        munmap(file->bytes, file->length);
+    flush_output();
+    if (fclose(stdout) != 0) {
+        stop("lids: standard output");
     }
 }
 
-static size_t two_bytes(const uint8_t *bytes)
+/* The field that an option sets; null where there is no such option. */
+static bool *option(struct request *request, const char *word)
 {
-    return bytes[0] + (size_t)256 * bytes[1];
-}
-
-static uint32_t four_bytes(const uint8_t *bytes)
-{
-    return (uint32_t)(two_bytes(bytes) + 65536 * two_bytes(bytes + 2));
-}
-
-/* Lends the noise call memory for m windows. False where there is not so much; then no field has changed. */
-static bool measure_pixels(const uint8_t *pixels, size_t w, size_t h, size_t m, uint32_t fields[FIELDS])
-{
-    size_t ints_len = 3 * m;
-    size_t floats_len = 2 * m + 2;
-    int32_t *ints = malloc(ints_len * sizeof *ints);
-    float *floats = malloc(floats_len * sizeof *floats);
-    bool lent = ints != NULL && floats != NULL;
-    if (lent) {
-        uint8_t answer[VUZGARI_ANSWER_BYTES] = {0};
-        fields[0] = vuzgari_noise(pixels, w * h, w, h, ints, ints_len, floats, floats_len, answer, sizeof answer);
-        for (size_t k = 1; k < FIELDS; k++) {
-            fields[k] = four_bytes(answer + 4 * k);
+    const struct {
+        const char *word;
+        bool *field;
+    } options[] = {
+        {"--help", &request->help},
+        {"--version", &request->version},
+        {"--tsv", &request->tsv},
+        {"--lidnoise", &request->lidnoise},
+    };
+    for (size_t k = 0; k < sizeof options / sizeof options[0]; k++) {
+        if (strcmp(word, options[k].word) == 0) {
+            return options[k].field;
         }
     }
-    free(ints);
-    free(floats);
-    return lent;
+    return NULL;
 }
 
-/* The ten fields of a lid, all but the number zero where it is refused. False where memory ran out. */
-static bool measure_lid(const struct file *lid, uint32_t fields[FIELDS])
+static bool refuse_word(const char *word)
 {
-    memset(fields, 0, FIELDS * sizeof *fields);
-    fields[0] = NOT_A_LID;
-    if (lid->length < HEADER_BYTES) {
-        return true;
-    }
-    size_t w = two_bytes(lid->bytes);
-    size_t h = two_bytes(lid->bytes + 2);
-    if (lid->length - HEADER_BYTES != w * h) {
-        return true;
-    }
-    uint64_t m = vuzgari_noise_windows(w, h);
-    if (m >= VUZGARI_REFUSED) {
-        fields[0] = (uint32_t)(m - VUZGARI_REFUSED);
-        return true;
-    }
-    return measure_pixels(lid->bytes + HEADER_BYTES, w, h, (size_t)m, fields);
+    fputs("lids: ", stderr);
+    put_name(stderr, word);
+    fputs(": no such option; lids --help lists them (a file of that name: ./NAME, or after --)\n", stderr);
+    return false;
 }
 
-static bool print_fields(const uint32_t fields[FIELDS])
+static bool looks_like_option(const char *word)
 {
-    printf("answer sigma milli b0 b1 b2 b3 rail rounds passes\n");
-    for (size_t k = 0; k < FIELDS; k++) {
-        const char *space = k == 0 ? "" : " ";
-        if (k == SIGMA) {
-            printf("%s%08" PRIX32, space, fields[k]);
+    return word[0] == '-' && word[1] != '\0';
+}
+
+/* Parts options from names; the names move to the front of `words`. False where a word is refused. */
+static bool part_words(char **words, size_t count, struct request *request)
+{
+    bool ended = false;
+    *request = (struct request){.names = words};
+    for (size_t k = 0; k < count; k++) {
+        if (ended || !looks_like_option(words[k])) {
+            request->names[request->count++] = words[k];
+        } else if (strcmp(words[k], "--") == 0) {
+            ended = true;
         } else {
-            printf("%s%" PRIu32, space, fields[k]);
+            bool *field = option(request, words[k]);
+            if (field == NULL) {
+                return refuse_word(words[k]);
+            }
+            *field = true;
         }
     }
-    printf("\n");
-    return fflush(stdout) == 0;
+    return true;
 }
 
-static const char *reason(uint32_t number)
+/* Why a request cannot be met; null where it can. */
+static const char *fault_of(const struct request *request)
 {
-    switch (number) {
-    case 1:
-        return "a side is above 16,384";
-    case 3:
-        return "a side is below 4: a window needs 4 by 4 pixels";
-    case 5:
-        return "under 512 windows are kept: the lid is too small, or nearly all of it is black or white";
-    case 6:
-        return "512 windows or more are kept, but no band has a variance: there is no quiet area at any brightness";
-    case 7:
-        return "the bands that join hold under 512 windows: there is too little quiet area";
-    case NOT_A_LID:
-        return "the file is not 4 + width * height bytes long";
-    default:
-        return "the noise call was not lent what it needs"; /* 2 or 4, which this program gives no cause for */
+    if (request->help || request->version) {
+        return NULL;
     }
+    if (request->lidnoise && request->tsv) {
+        return "--lidnoise and --tsv do not go together";
+    }
+    if (request->count == 0) {
+        return "no file is named";
+    }
+    return request->lidnoise && request->count > 1 ? "--lidnoise takes one file" : NULL;
+}
+
+static bool can_be_met(const struct request *request)
+{
+    const char *fault = fault_of(request);
+    if (fault != NULL) {
+        fprintf(stderr, "lids: %s; lids --help says what lids takes\n", fault);
+    }
+    return fault == NULL;
+}
+
+static enum status status_of(const struct lid *lid)
+{
+    if (!was_read(lid)) {
+        return FAILED;
+    }
+    return has_figure(lid) ? ALL_GIVEN : SOME_WITHOUT;
+}
+
+/* Measures a lid. Meanwhile the terminal shows how far it is, if it is to: the cursor waits at the line's front, so
+   that a row which comes there through a pipe covers it. */
+static void measure_shown(struct lid *lids, size_t k, size_t count, bool shown)
+{
+    int width = shown ? fprintf(stderr, "lids: %zu of %zu\r", k + 1, count) : 0;
+    measure_lid(&lids[k]);
+    if (width > 0) {
+        fprintf(stderr, "%*s\r", width - 1, "");
+    }
+}
+
+static void print_heading(bool tsv, size_t column)
+{
+    if (tsv) {
+        print_tsv_heading();
+    } else {
+        print_table_heading(column);
+    }
+    flush_output();
+}
+
+static void print_row(bool tsv, const struct lid *lid, size_t column)
+{
+    if (tsv) {
+        print_tsv_row(lid);
+    } else {
+        print_table_row(lid, column);
+    }
+    flush_output();
+}
+
+/* Measures the lids and prints each row as it is measured. */
+static enum status print_rows(struct lid *lids, size_t count, bool tsv)
+{
+    bool shown = !isatty(STDOUT_FILENO) && isatty(STDERR_FILENO);
+    size_t column = name_column(lids, count);
+    enum status worst = ALL_GIVEN;
+    print_heading(tsv, column);
+    for (size_t k = 0; k < count; k++) {
+        measure_shown(lids, k, count, shown);
+        print_row(tsv, &lids[k], column);
+        enum status status = status_of(&lids[k]);
+        worst = status > worst ? status : worst;
+    }
+    return worst;
+}
+
+static enum status run_rows(const struct request *request)
+{
+    struct lid *lids = calloc(request->count, sizeof *lids);
+    if (lids == NULL) {
+        stop("lids");
+    }
+    for (size_t k = 0; k < request->count; k++) {
+        lids[k].name = request->names[k];
+    }
+    enum status status = print_rows(lids, request->count, request->tsv);
+    if (!request->tsv) {
+        print_end_lines(lids, request->count);
+    }
+    free(lids);
+    return status;
+}
+
+/* Says on standard error why the lid has no figure. */
+static void say_reason(const struct lid *lid)
+{
+    fputs("lids: ", stderr);
+    put_name(stderr, lid->name);
+    if (was_read(lid)) {
+        fprintf(stderr, ": no figure, number %" PRIu32, lid->answer.number);
+    }
+    fputs(": ", stderr);
+    put_reason(stderr, lid);
+    fputs("\n", stderr);
+}
+
+static enum status run_lidnoise(const char *name)
+{
+    struct lid lid = {.name = name};
+    measure_lid(&lid);
+    if (was_read(&lid)) {
+        print_lidnoise(&lid);
+        flush_output();
+    }
+    if (!has_figure(&lid)) {
+        say_reason(&lid);
+    }
+    return status_of(&lid);
+}
+
+static enum status run(const struct request *request)
+{
+    if (request->help) {
+        fputs(help, stdout);
+        return ALL_GIVEN;
+    }
+    if (request->version) {
+        printf("lids %s\n", vuzgari_version());
+        return ALL_GIVEN;
+    }
+    return request->lidnoise ? run_lidnoise(request->names[0]) : run_rows(request);
 }
 
 int main(int argc, char **argv)
 {
-    if (argc != 2) {
-        fprintf(stderr, "usage: lid FILE\n");
-        return 2;
+    struct request request;
+    size_t words = argc > 1 ? (size_t)argc - 1 : 0;
+    if (!part_words(argv + 1, words, &request) || !can_be_met(&request)) {
+        return FAILED;
     }
-    struct file lid;
-    if (!map_file(argv[1], &lid)) {
-        fprintf(stderr, "lid: %s: not a plain file that can be mapped\n", argv[1]);
-        return 2;
-    }
-    uint32_t fields[FIELDS];
-    bool measured = measure_lid(&lid, fields);
-    unmap_file(&lid);
-    if (!measured) {
-        fprintf(stderr, "lid: %s: memory ran out\n", argv[1]);
-        return 2;
-    }
-    if (!print_fields(fields)) {
-        perror("lid: standard output");
-        return 2;
-    }
-    if (fields[0] == 0) {
-        return 0;
-    }
-    fprintf(stderr, "lid: %s: no figure, number %" PRIu32 ": %s\n", argv[1], fields[0], reason(fields[0]));
-    return 1;
+    enum status status = run(&request);
+    close_output();
+    return (int)status;
 }
