@@ -2,8 +2,8 @@
 
        cc -o edge edge.c $(pkg-config --cflags --libs vuzgari)
 
-   The call looks at the pixels about a centre, 17 by 17, and says over how many pixels dark turns to bright there: a
-   sharp picture has narrow edges. It needs no memory but the pixels. */
+   The call looks at the pixels about a centre, 17 by 17, and says how wide the edges there are: the sharper the
+   picture, the narrower. It needs no memory but the pixels. */
 #include <vuzgari.h>
 
 #include <stdio.h>
