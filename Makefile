@@ -1,6 +1,6 @@
 # The usual words, over the scripts of package/ and tests/. CC, AR, CFLAGS and LDFLAGS count as usual.
-PREFIX = /usr/local
-DESTDIR =
+PREFIX ?= /usr/local
+DESTDIR ?=
 
 all:
 	@package/build
