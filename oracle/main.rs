@@ -69,6 +69,8 @@ pub struct Run {
     seed: u64,
     turn: u64,
     topic: &'static str,
+    /// Which topic of how many it is.
+    place: [usize; 2],
     began: Instant,
     told: Instant,
     /// Inputs compared so far.
@@ -161,8 +163,9 @@ impl Run {
     fn progress(&mut self, what: &str, n: u64) {
         if self.told.elapsed() >= Duration::from_secs(10) {
             self.told = Instant::now();
-            let (seconds, compared) = (self.began.elapsed().as_secs(), self.compared + n);
-            eprintln!("compare: {seconds} s, turn {}, {compared} inputs agree; {} {what}, {n} this turn", self.turn, self.topic);
+            let (seconds, compared, [k, of]) = (self.began.elapsed().as_secs(), self.compared + n, self.place);
+            let at = format!("turn {}, topic {k} of {of}, {} {what}", self.turn, self.topic);
+            eprintln!("compare: {seconds} s, {compared} inputs agree; {at}, {n} this turn");
         }
     }
 
@@ -173,12 +176,20 @@ impl Run {
         }
     }
 
+    /// Says which topic begins, where each is run once.
+    fn begin(&mut self, topic: &Topic, place: [usize; 2]) {
+        (self.topic, self.place) = (topic.name, place);
+        if !matches!(self.limit, Limit::Seconds(_)) {
+            eprintln!("compare: topic {} of {}: {}", place[0], place[1], topic.name);
+        }
+    }
+
     /// Runs the topics, in turns where a time is set; the first turn is run to its end.
     fn turns(&mut self, topics: &[&Topic]) {
         let first = self.turn;
         loop {
-            for topic in topics {
-                self.topic = topic.name;
+            for (k, topic) in topics.iter().enumerate() {
+                self.begin(topic, [k + 1, topics.len()]);
                 (topic.compare)(self);
                 if let (Limit::Gate, Some(store)) = (self.limit, topic.store) {
                     self.stored(store());
@@ -251,7 +262,7 @@ fn main() {
         eprintln!("compare: seed {seed}, {s} s, from turn {turn}");
     }
     let now = Instant::now();
-    let mut run = Run { limit, seed, turn, topic: "", began: now, told: now, compared: 0, counts: BTreeMap::new() };
+    let mut run = Run { limit, seed, turn, topic: "", place: [0; 2], began: now, told: now, compared: 0, counts: BTreeMap::new() };
     run.turns(&chosen);
     run.tell_counts();
     let (turns, compared) = (run.turn + 1 - turn, run.compared);

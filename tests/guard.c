@@ -13,7 +13,8 @@
 #include <sys/mman.h>
 #include <unistd.h>
 
-enum { FIELDS = VUZGARI_ANSWER_BYTES / 4 };
+/* Ten fields of 4 bytes with nothing between: answers whose bytes are equal have equal fields, sigma's bits too. */
+_Static_assert(sizeof(struct vuzgari_answer) == VUZGARI_ANSWER_BYTES, "the answer has no other bytes than its fields");
 
 static enum { AFTER, BEFORE } guarded; /* where the unreadable page is */
 static char doing[128];                /* the call under way */
@@ -175,21 +176,20 @@ static void refused(const struct image *image, const char *what, struct lent len
     close_work(&work);
 }
 
-static uint32_t field(const uint8_t *bytes)
+static bool same(const struct vuzgari_answer *a, const struct vuzgari_answer *b)
 {
-    return bytes[0] | (uint32_t)bytes[1] << 8 | (uint32_t)bytes[2] << 16 | (uint32_t)bytes[3] << 24;
+    return memcmp(a, b, sizeof *a) == 0;
 }
 
-/* A call that ends in the fields and clears memory for m windows. */
+/* A call that ends in the stored answer and clears memory for m windows. */
 static void measured(const struct image *image, const char *what, struct lent lent, size_t m,
-                     const uint32_t fields[FIELDS])
+                     const struct vuzgari_answer *stored)
 {
     begin(image->name, what);
     struct work work = open_work(&lent);
-    hold(call_noise(image, &lent, &work) == fields[0], "another number");
-    for (size_t k = 0; k < FIELDS; k++) {
-        hold(field(work.answer.at + 4 * k) == fields[k], "another field");
-    }
+    hold(call_noise(image, &lent, &work) == stored->number, "another number");
+    struct vuzgari_answer answer = vuzgari_answer_from(work.answer.at);
+    hold(same(&answer, stored), "another answer");
     size_t ints = 3 * m * sizeof(int32_t);
     size_t floats = (2 * m + 2) * sizeof(float);
     hold(marked_from(&work.answer, VUZGARI_ANSWER_BYTES), "answer bytes beyond changed");
@@ -199,19 +199,19 @@ static void measured(const struct image *image, const char *what, struct lent le
 }
 
 /* With just the memory that is needed, with more of it, and with whole pages: both ends are next to unreadable ones. */
-static void lengths(const struct image *image, struct lent lent, size_t m, const uint32_t fields[FIELDS])
+static void lengths(const struct image *image, struct lent lent, size_t m, const struct vuzgari_answer *stored)
 {
-    measured(image, "just the lengths", lent, m, fields);
+    measured(image, "just the lengths", lent, m, stored);
     struct lent longer = lent;
     longer.ints += 1;
     longer.floats += 7;
     longer.answer += 5;
-    measured(image, "longer slices", longer, m, fields);
+    measured(image, "longer slices", longer, m, stored);
     struct lent pages = lent;
     pages.ints = whole_pages(lent.ints * sizeof(int32_t)) / sizeof(int32_t);
     pages.floats = whole_pages(lent.floats * sizeof(float)) / sizeof(float);
     pages.answer = whole_pages(lent.answer);
-    measured(image, "whole pages", pages, m, fields);
+    measured(image, "whole pages", pages, m, stored);
 }
 
 /* One thing wrong at a time; and each number before those that come later in the order. */
@@ -219,41 +219,45 @@ static void refusals(const struct image *image, struct lent good)
 {
     struct lent bad = good;
     bad.ints -= 1;
-    refused(image, "an i32 short", bad, 4);
+    refused(image, "an i32 short", bad, VUZGARI_SHORT_SLICE);
     bad = good;
     bad.floats -= 1;
-    refused(image, "an f32 short", bad, 4);
+    refused(image, "an f32 short", bad, VUZGARI_SHORT_SLICE);
     bad = good;
     bad.answer -= 1;
-    refused(image, "an answer byte short", bad, 4);
+    refused(image, "an answer byte short", bad, VUZGARI_SHORT_SLICE);
     bad = (struct lent){.w = good.w, .h = good.h, .pixels = good.pixels};
-    refused(image, "no work memory", bad, 4);
+    refused(image, "no work memory", bad, VUZGARI_SHORT_SLICE);
     bad.w = 3;
     bad.pixels = 3 * good.h;
-    refused(image, "3 columns, no work memory", bad, 3);
+    refused(image, "3 columns, no work memory", bad, VUZGARI_SIDE_BELOW);
     bad.pixels += 1;
-    refused(image, "3 columns, a pixel too many, no work memory", bad, 2);
+    refused(image, "3 columns, a pixel too many, no work memory", bad, VUZGARI_OTHER_LENGTH);
     bad = good;
     bad.pixels -= 1;
-    refused(image, "a pixel short", bad, 2);
+    refused(image, "a pixel short", bad, VUZGARI_OTHER_LENGTH);
     bad.pixels += 2;
-    refused(image, "a pixel too many", bad, 2);
+    refused(image, "a pixel too many", bad, VUZGARI_OTHER_LENGTH);
     bad.w = 16385;
-    refused(image, "16,385 columns", bad, 1);
+    refused(image, "16,385 columns", bad, VUZGARI_SIDE_ABOVE);
     bad = (struct lent){.w = good.w, .h = SIZE_MAX};
-    refused(image, "2^64 - 1 rows, nothing lent", bad, 1);
+    refused(image, "2^64 - 1 rows, nothing lent", bad, VUZGARI_SIDE_ABOVE);
 }
 
-/* The ten fields of a stored line. */
-static void stored_fields(const struct image *image, uint32_t fields[FIELDS])
+/* The answer of a stored line: ten fields, sigma as its bits. */
+static struct vuzgari_answer stored_answer(const struct image *image)
 {
+    uint32_t fields[VUZGARI_ANSWER_BYTES / 4];
     const char *text = image->stored;
-    for (size_t k = 0; k < FIELDS; k++) {
+    for (size_t k = 0; k < sizeof fields / sizeof *fields; k++) {
         char *end;
         fields[k] = (uint32_t)strtoul(text, &end, k == 1 ? 16 : 10);
         hold(end != text, "a stored line is not ten fields");
         text = end;
     }
+    struct vuzgari_answer answer;
+    memcpy(&answer, fields, sizeof answer);
+    return answer;
 }
 
 static uint64_t call_sizing(const struct image *image)
@@ -262,27 +266,26 @@ static uint64_t call_sizing(const struct image *image)
     return vuzgari_noise_windows(image->w, image->h);
 }
 
-/* The sizing and the noise call on one lid of the list; a line of number 15 has no such call. */
+/* The sizing and the noise call on one lid of the list; a line of VUZGARI_NOT_A_LID has no such call. */
 static void lid(const struct image *image)
 {
     if (image->more != 0) {
         return;
     }
-    uint32_t fields[FIELDS];
     begin(image->name, "sizing");
-    stored_fields(image, fields);
+    struct vuzgari_answer stored = stored_answer(image);
     struct lent lent = {.w = image->w, .h = image->h, .pixels = image->w * image->h, .answer = VUZGARI_ANSWER_BYTES};
     uint64_t size = call_sizing(image);
-    if (fields[0] == 1 || fields[0] == 3) {
-        hold(size == VUZGARI_REFUSED + fields[0], "another number");
-        refused(image, "sides", lent, fields[0]);
+    if (stored.number == VUZGARI_SIDE_ABOVE || stored.number == VUZGARI_SIDE_BELOW) {
+        hold(size == VUZGARI_REFUSED + stored.number, "another number");
+        refused(image, "sides", lent, stored.number);
         return;
     }
-    hold(size < VUZGARI_REFUSED, "refused");
+    hold(vuzgari_number_of(size) == VUZGARI_GIVEN, "refused");
     size_t m = (size_t)size;
     lent.ints = 3 * m;
     lent.floats = 2 * m + 2;
-    lengths(image, lent, m, fields);
+    lengths(image, lent, m, &stored);
     refusals(image, lent);
 }
 
@@ -295,11 +298,12 @@ static void edge(const struct image *image)
     int read = sscanf(image->stored, "%" SCNd32 " %" SCNd32 " %" SCNd32 " %" SCNd32 " %" SCNu32 " %" SCNx32,
                       &ox, &oy, &cx, &cy, &number, &bits);
     hold(read == 6, "a stored line is not six fields");
-    uint64_t answer = number == 0 ? bits : VUZGARI_REFUSED + number;
+    uint64_t answer = number == VUZGARI_GIVEN ? bits : VUZGARI_REFUSED + number;
     size_t count = lid_bytes(image) - 4;
     struct room pixels = open_pixels(image, count);
     calls++;
-    hold(vuzgari_edge_width(pixels.at, count, image->w, image->h, ox, oy, cx, cy) == answer, "another answer");
+    uint64_t returned = vuzgari_edge_width(pixels.at, count, image->w, image->h, ox, oy, cx, cy);
+    hold(returned == answer && vuzgari_number_of(returned) == number, "another answer");
     close_room(&pixels);
 }
 
@@ -308,11 +312,11 @@ static void nulls(void)
 {
     calls += 3;
     begin("null pointers", "noise, no sides");
-    hold(vuzgari_noise(NULL, 0, 0, 0, NULL, 0, NULL, 0, NULL, 0) == 3, "another number");
+    hold(vuzgari_noise(NULL, 0, 0, 0, NULL, 0, NULL, 0, NULL, 0) == VUZGARI_SIDE_BELOW, "another number");
     begin("null pointers", "noise, 4 by 4");
-    hold(vuzgari_noise(NULL, 0, 4, 4, NULL, 0, NULL, 0, NULL, 0) == 2, "another number");
+    hold(vuzgari_noise(NULL, 0, 4, 4, NULL, 0, NULL, 0, NULL, 0) == VUZGARI_OTHER_LENGTH, "another number");
     begin("null pointers", "edge");
-    hold(vuzgari_edge_width(NULL, 0, 0, 0, 0, 0, 0, 0) == VUZGARI_REFUSED + 9, "another answer");
+    hold(vuzgari_edge_width(NULL, 0, 0, 0, 0, 0, 0, 0) == VUZGARI_REFUSED + VUZGARI_FLAT, "another answer");
 }
 
 static void each(const char *path, void (*try)(const struct image *))
