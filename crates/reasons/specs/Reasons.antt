@@ -1,9 +1,11 @@
 -- Each number that the desk reads, in a sentence for a person.
-use Prim.Native.Nat.{ℕ}
+use Prim.Native.Nat.{ℕ, _+_}
 use Prim.Native.String.{String}
 use mathlib.Core.Bool.{cond}
-use mathlib.Core.List.{List, [], _∷_}
+use mathlib.Core.List.{List, [], _∷_, _++_}
 use lib.Dec.{eqb}
+use Rattle.text.specs.Text.{asBytes}
+use Rattle.text.specs.Numerals.{decimalOf}
 
 -- as many bytes as a sentence may take
 abbrev pub reasonBytes : ℕ
@@ -37,3 +39,11 @@ beside ((k, s) ∷ rows) n = cond (eqb n k) s (beside rows n)
 
 abbrev pub reasonOf : ℕ → String
 reasonOf n = beside sentences n
+
+-- a number and its sentence, as the end of a line
+unfoldable pub numberedOf : ℕ → List ℕ
+numberedOf n = asBytes "number " ++ decimalOf n ++ asBytes ": " ++ asBytes (reasonOf n) ++ asBytes "\n"
+
+-- as many bytes as that may take: a number has at most 20 digits
+abbrev pub numberedBytes : ℕ
+numberedBytes = 7 + 20 + 2 + reasonBytes + 1
