@@ -5,7 +5,8 @@ use mathlib.Core.List.{List, [], _++_}
 use Prim.Native.Nat.{ℕ, _+_, _≤_, _<_}
 use native.Mathlib.Omega.{arith}
 use lib.Dec.{eqb}
-use lib.ListN.{length, getD, length-append, List·getD-eq-default}
+use lib.Seq.{getD-take}
+use lib.ListN.{length, getD, take, length-append, List·getD-eq-default}
 use borrow.Author.Tests.{eq-eqb, ne-eqb}
 use Rattle.io.specs.Counts.{Counts}
 use Rattle.laws.proofs.Choice.{chosen, passed, cond-both}
@@ -80,3 +81,9 @@ module _ (input : List ℕ) where
 
           whole : Fronted out (remarkOf input n) r₃ l₃
           whole = subst (λ (t : List ℕ). Fronted out t r₃ l₃) same (front out l₃ (pgmOf input ++ noFigure ++ numberedOf n) r₃ (after out l₂ l₃ 0 r₂ r₃ (pgmOf input ++ noFigure) (numberedOf n) (omega (arith, two-short, numbered-short n)) at-two p₃))
+
+  -- ---- the first two bytes decide
+
+  pub by-front : (m n : ℕ) → 1 < m → remarkOf (take m input) n ≡ remarkOf input n
+  unfolding remarkOf pgmOf beginsP5
+  by-front m n h = rw (getD-take m input 0 0 (omega arith), getD-take m input 1 0 h) refl
