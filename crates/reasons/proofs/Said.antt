@@ -28,11 +28,12 @@ none before ((k, s) ∷ rows) n a =
     sym (passed (eqb n k) s (beside rows n) (ne-eqb n k (before-of (before × (n ≡ k → ⊥)) rows n a .1))) ∙ none (before × (n ≡ k → ⊥)) rows n a
 
 module _ (n at r : ℕ) (text out out′ : List ℕ) (laying : LaidTo out at text r out′) where
-  same : text ≡ asBytes (reasonOf n) → LaidTo out at (asBytes (reasonOf n)) r out′
+  same : text ≡ asBytes (beside sentences n) → LaidTo out at (asBytes (reasonOf n)) r out′
+  unfolding reasonOf
   same e = (laying .0 ∙ ap (λ (l : List ℕ). at + length l) e, laying .1 ∙ ap (λ (l : List ℕ). laid out at l) e)
 
-  pub by-key : (k : ℕ) → text ≡ asBytes (reasonOf k) → n ≡ k → LaidTo out at (asBytes (reasonOf n)) r out′
-  by-key k e h = same (e ∙ ap (λ (m : ℕ). asBytes (reasonOf m)) (sym h))
+  pub by-key : (k : ℕ) → text ≡ asBytes (beside sentences k) → n ≡ k → LaidTo out at (asBytes (reasonOf n)) r out′
+  by-key k e h = same (e ∙ ap (λ (m : ℕ). asBytes (beside sentences m)) (sym h))
 
   pub by-none : text ≡ asBytes "no such number" → Apart (Unit {0}) sentences n → LaidTo out at (asBytes (reasonOf n)) r out′
   by-none e a = same (e ∙ ap asBytes (sym (none (Unit {0}) sentences n a)))

@@ -25,4 +25,5 @@ all : Short sentences
 all = (tt, (tt, (tt, (tt, (tt, (tt, (tt, (tt, (tt, (tt, (tt, (tt, (tt, (tt, (tt, (tt, (tt, tt)))))))))))))))))
 
 pub reason-short : (n : ℕ) → length (asBytes (reasonOf n)) ≤ reasonBytes
+unfolding reasonOf
 reason-short n = beside-fits sentences n all

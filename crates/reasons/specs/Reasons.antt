@@ -37,7 +37,7 @@ abbrev pub beside : List (ℕ × String) → ℕ → String
 beside [] n = "no such number"
 beside ((k, s) ∷ rows) n = cond (eqb n k) s (beside rows n)
 
-abbrev pub reasonOf : ℕ → String
+unfoldable pub reasonOf : ℕ → String
 reasonOf n = beside sentences n
 
 -- a number and its sentence, as the end of a line

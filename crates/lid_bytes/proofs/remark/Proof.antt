@@ -1,4 +1,5 @@
 -- Nothing beside a figure; else three texts one after the other.
+use native.Mathlib.Omega.{arith}
 use denote.Ref.{now}
 use Rattle.lid_bytes.proofs.Remarks.{nothing, left-one, left-two, said}
 use borrow.Author.Needs.{needs}
@@ -30,8 +31,12 @@ put-numbered-requires c κs =
     let u = c .before .before .before in
     let t = u .before .before .before .before .before in
     let s = t .before .before .before .before .before in
-    left-two (now (s .args .input)) (s .args .number) (now (s .args .out)) (t .put-pgm .last .1 .0) (t .put-pgm .result) (s .pre) (t .put-pgm .ensures)
-    (u .put .last .0) (u .put .result) (u .put .ensures)
+    omega (
+      arith,
+      u .put .ensures .0,
+      left-two (now (s .args .input)) (s .args .number) (now (s .args .out)) (t .put-pgm .last .1 .0) (t .put-pgm .result) (s .pre) (t .put-pgm .ensures)
+          (u .put .last .0) (u .put .result) (u .put .ensures),
+    )
 
 same-length : tie.Need-same-length
 same-length c = search needs
