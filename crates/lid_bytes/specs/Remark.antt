@@ -7,7 +7,7 @@ use lib.ListN.{length, getD}
 use Rattle.text.specs.Text.{asBytes}
 use Rattle.reasons.specs.Reasons.{numberedBytes, numberedOf}
 
--- hex 50 35
+-- hex 50 35, as a binary PGM file begins
 unfoldable pub beginsP5 : List ℕ → Bool
 beginsP5 input = eqb (getD input 0 0) 80 && eqb (getD input 1 0) 53
 

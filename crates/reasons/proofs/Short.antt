@@ -1,5 +1,4 @@
 -- No sentence is longer than the bound: each row of the table, and what a number without a row is told.
-use mathlib.Core.Bool.{Bool, true, false, cond}
 use mathlib.Core.List.{List, [], _∷_}
 use Prim.Native.Nat.{ℕ, _≤_}
 use Prim.Native.String.{String}

@@ -11,6 +11,7 @@ use Rattle.text.specs.Numerals.{decimalOf}
 abbrev pub reasonBytes : ℕ
 reasonBytes = 100
 
+-- docs/NUMBERS.md's reasons, word for word
 abbrev pub sentences : List (ℕ × String)
 sentences =
     (0, "there is a figure")
@@ -40,7 +41,7 @@ beside ((k, s) ∷ rows) n = cond (eqb n k) s (beside rows n)
 unfoldable pub reasonOf : ℕ → String
 reasonOf n = beside sentences n
 
--- a number and its sentence, as the end of a line
+-- a number and its sentence, to a line's end
 unfoldable pub numberedOf : ℕ → List ℕ
 numberedOf n = asBytes "number " ++ decimalOf n ++ asBytes ": " ++ asBytes (reasonOf n) ++ asBytes "\n"
 
