@@ -1,11 +1,10 @@
--- The noise call on work memory that is always enough; the report of its answer.
-use mathlib.Core.Path.{_≡_, refl, ap, _∙_}
+-- The noise call on work memory that is always enough; the report of its answer, and the remark on it.
+use mathlib.Core.Path.{_≡_, refl, ap, subst, _∙_}
 use mathlib.Core.Bool.{Bool, false}
-use mathlib.Core.List.{List, _++_}
+use mathlib.Core.List.{List}
 use Prim.Native.Nat.{ℕ, _+_, _*_, _≤_}
 use native.Mathlib.Omega.{arith}
 use native.Mathlib.Nat.{le-trans}
-use lib.ListN.{length, drop}
 use Rattle.grid.specs.Needed.{neededOf, firstW, secondW}
 use Rattle.grid.proofs.Places.{total-most}
 use Rattle.grid.proofs.Memory.{no-more}
@@ -15,8 +14,9 @@ use Rattle.noise.specs.Call.{noiseOf}
 use Rattle.noise.proofs.Causes.{enough}
 use Rattle.lid_bytes.specs.Input.{mostPixels}
 use Rattle.lid_bytes.specs.Report.{reportOf}
-use Rattle.lid_bytes.proofs.Reports.{Reported}
-use Rattle.lid.specs.Answer.{lidAnswer, outputOf}
+use Rattle.lid_bytes.specs.Remark.{remarkOf}
+use Rattle.text.specs.Placed.{Fronted}
+use Rattle.lid.specs.Answer.{lidAnswer, outputOf, saidOf}
 
 -- M is at most the pixels
 few : (w h : ℕ) → w * h ≤ mostPixels → neededOf w h ≤ mostPixels
@@ -27,5 +27,9 @@ pub by-noise : (pixels : List ℕ) (w h ints floats : ℕ) {r : Answer} → r �
 by-noise pixels w h ints floats e b i f =
     e ∙ ap (noiseOf pixels w h) (enough w h ints floats (neededOf w h) refl (omega (arith, few w h b)) (omega (arith, few w h b)))
 
-pub answered : (input : List ℕ) (a : Answer) (out out′ : List ℕ) (r : ℕ) → a ≡ lidAnswer input → Reported (reportOf a) out out′ r → Reported (outputOf input) out out′ r
-answered input a out out′ r e (p, q) = (p ∙ ap (λ (x : Answer). length (reportOf x)) e, q ∙ ap (λ (x : Answer). reportOf x ++ drop r out) e)
+module _ (input : List ℕ) (a : Answer) (out out′ : List ℕ) (r : ℕ) (e : a ≡ lidAnswer input) where
+  pub answered : Fronted out (reportOf a) r out′ → Fronted out (outputOf input) r out′
+  answered p = subst (λ (x : Answer). Fronted out (reportOf x) r out′) e p
+
+  pub remarked : Fronted out (remarkOf input (a .number)) r out′ → Fronted out (saidOf input) r out′
+  remarked p = subst (λ (x : Answer). Fronted out (remarkOf input (x .number)) r out′) e p

@@ -1,4 +1,4 @@
--- An input's first bytes, one more than the largest lid has, decide its answer: what stands past them need not be read.
+-- An input's first bytes, one more than the largest lid has, decide its answer and what is said of it: what stands past them need not be read.
 use mathlib.Core.Path.{_≡_, refl, sym, ap, _∙_}
 use mathlib.Core.Bool.{Bool, true, false}
 use mathlib.Core.List.{List}
@@ -12,8 +12,11 @@ use Rattle.little_endian.specs.Bytes.{valueOf}
 use Rattle.noise.specs.Call.{refused}
 use Rattle.lid_bytes.specs.declared.Input.the-variants.{Refused}
 use Rattle.lid_bytes.specs.Input.{mostPixels, inputBytes, pixelsOf, parsedOf}
-use Rattle.lid.specs.Answer.{answerParsed, lidAnswer}
+use Rattle.lid.specs.Answer.{answerParsed, lidAnswer, saidOf}
+use Rattle.answer.specs.declared.Answer.{Answer}
+use Rattle.lid_bytes.specs.Remark.{remarkOf}
 use Rattle.lid_bytes.proofs.Inputs.{too-many, unlike}
+use Rattle.lid_bytes.proofs.Remarks.{by-front as remark-by-front}
 
 same-slice : (f t n : ℕ) (l : List ℕ) → t ≤ n → slice f t l ≡ slice f t (take n l)
 same-slice f t n l h = ap (λ (m : List ℕ). drop f m) (sym (take-take t n l h))
@@ -56,3 +59,6 @@ by-front n all input false e = ap lidAnswer (take-all n input (ltb-false n (leng
 
 pub first-bytes : (input : List ℕ) → lidAnswer (take inputBytes input) ≡ lidAnswer input
 first-bytes input = by-front inputBytes (omega arith) input (ltb inputBytes (length input)) refl
+
+pub first-bytes-said : (input : List ℕ) → saidOf (take inputBytes input) ≡ saidOf input
+first-bytes-said input = remark-by-front input inputBytes (lidAnswer (take inputBytes input) .number) (omega arith) ∙ ap (λ (a : Answer). remarkOf input (a .number)) (first-bytes input)

@@ -1,14 +1,15 @@
 // `lidnoise`, from its input's bytes to its output's: parse, measure, print.
 ghost use mathlib.Core.Path.{_≡_};
 ghost use mathlib.Core.Bool.{false};
-ghost use mathlib.Core.List.{_++_};
 ghost use Prim.Native.Nat.{_*_, _≤_};
 ghost use lib.ListN.{length, drop};
 ghost use Rattle.io.specs.Counts.{Counts};
 ghost use Rattle.noise.specs.Call.{noiseOf};
 ghost use Rattle.lid_bytes.specs.Input.{mostPixels};
 ghost use Rattle.lid_bytes.specs.Report.{reportBytes};
-ghost use Rattle.lid.specs.Answer.{lidAnswer, outputOf};
+ghost use Rattle.lid_bytes.specs.Remark.{remarkBytes};
+ghost use Rattle.text.specs.Placed.{Fronted};
+ghost use Rattle.lid.specs.Answer.{lidAnswer, outputOf, saidOf};
 use answer::Answer;
 use lid_bytes::Input;
 
@@ -41,13 +42,23 @@ pub fn answer_to(input: &[u8]) -> Answer
     }
 }
 
-// What `lidnoise` writes for an input, from the front of `out` on: answers how long it is.
-pub fn lidnoise(input: &[u8], out: &mut [u8]) -> usize
-    requires { ⌜ reportBytes ≤ length (now out) ⌝ }
-    ensures { λ r. ⌜ (r ≡ length (outputOf (now (input .entry))))
-        × (now (out .exit) ≡ outputOf (now (input .entry)) ++ drop r (now (out .entry))) ⌝ }
-    ensures { λ r. ⌜ Counts r (now (out .exit)) ⌝ }
+// How long what `lidnoise` writes is: on standard output, and on standard error.
+pub struct Lengths {
+    pub output: usize,
+    pub remark: usize,
+}
+
+// What `lidnoise` writes for an input, from the front of `out` and of `remark` on.
+pub fn lidnoise(input: &[u8], out: &mut [u8], remark: &mut [u8]) -> Lengths
+    requires { ⌜ (reportBytes ≤ length (now out)) × (remarkBytes ≤ length (now remark)) ⌝ }
+    ensures { λ r. ⌜ Fronted (now (out .entry)) (outputOf (now (input .entry))) (r .output) (now (out .exit)) ⌝ }
+    ensures { λ r. ⌜ Fronted (now (remark .entry)) (saidOf (now (input .entry))) (r .remark) (now (remark .exit)) ⌝ }
+    ensures { λ r. ⌜ Counts (r .output) (now (out .exit)) × Counts (r .remark) (now (remark .exit)) ⌝ }
 {
     let a = answer_to(input);
-    lid_bytes::print(a, out)
+    let number = a.number;
+    Lengths {
+        output: lid_bytes::print(a, out),
+        remark: lid_bytes::remark(input, number, remark),
+    }
 }

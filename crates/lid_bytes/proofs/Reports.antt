@@ -16,7 +16,7 @@ abbrev pub Reported : List ℕ → List ℕ → List ℕ → ℕ → Type 0
 Reported report out out′ r = (r ≡ length report) × (out′ ≡ report ++ drop r out)
 
 -- they lie in the output
-counts : (report out out′ : List ℕ) (r : ℕ) → Reported report out out′ r → Counts r out′
+pub counts : (report out out′ : List ℕ) (r : ℕ) → Reported report out out′ r → Counts r out′
 counts report out out′ r (p, q) =
     (omega (arith, ap length q, length-append report (drop r out)), p ∙ ap length (sym (ap (λ (l : List ℕ). take r l) q ∙ take-at report (drop r out) r (sym p))))
 

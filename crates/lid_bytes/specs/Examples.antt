@@ -1,5 +1,6 @@
--- Inputs at the ends of what is taken, in the order of their causes; a report whose ten fields differ.
+-- Inputs at the ends of what is taken, in the order of their causes; a report whose ten fields differ; remarks.
 use mathlib.Core.Path.{_≡_, refl}
+use mathlib.Core.Bool.{true, false}
 use mathlib.Core.List.{[], _∷_}
 use lib.ListN.{replicate}
 use lib.Ieee.{ofInt, toBits}
@@ -12,6 +13,8 @@ use Rattle.answer.specs.declared.Answer.{Answer}
 use Rattle.lid_bytes.specs.declared.Input.the-variants.{Image, Refused}
 use Rattle.lid_bytes.specs.Input.{widthOf, heightOf, parsedOf}
 use Rattle.lid_bytes.specs.Report.{reportBytes, reportOf}
+use Rattle.reasons.specs.Reasons.{reasonOf, numberedOf}
+use Rattle.lid_bytes.specs.Remark.{beginsP5, pgmOf, remarkOf, remarkBytes}
 
 -- width first, each low first
 pub sides : (parsedOf (3 ∷ 0 ∷ 2 ∷ 0 ∷ replicate 6 9) ≡ Image 3 2) × (parsedOf (0 ∷ 1 ∷ 1 ∷ 0 ∷ replicate 256 9) ≡ Image 256 1)
@@ -50,3 +53,29 @@ ten-fields = refl
 
 pub room : reportBytes ≡ 260
 room = refl
+
+-- ---- remarks
+
+-- both bytes, in their order
+pub two-bytes : (beginsP5 (80 ∷ 53 ∷ []) ≡ true) × (beginsP5 (80 ∷ 54 ∷ 53 ∷ []) ≡ false) × (beginsP5 (53 ∷ 80 ∷ []) ≡ false)
+    × (beginsP5 (80 ∷ []) ≡ false) × (beginsP5 [] ≡ false)
+unfolding beginsP5
+two-bytes = (refl, refl, refl, refl, refl)
+
+-- nothing beside a figure, whatever the input
+pub beside-figure : (remarkOf (26 ∷ 0 ∷ []) 0 ≡ []) × (remarkOf (80 ∷ 53 ∷ []) 0 ≡ [])
+unfolding remarkOf
+beside-figure = (refl, refl)
+
+pub too-small : remarkOf (3 ∷ 0 ∷ 9 ∷ 0 ∷ []) 3
+    ≡ asBytes "lidnoise: no figure, number 3: a side is below 4: a window needs 4 by 4 pixels\n"
+unfolding remarkOf pgmOf beginsP5 numberedOf reasonOf decimalOf places
+too-small = refl
+
+pub of-pgm : remarkOf (asBytes "P5\n64 64\n255\n") 16
+    ≡ asBytes "lidnoise: the input begins with P5, as a binary PGM file does; lidnoise reads two bytes of width, two of height, low first, then the pixels\nlidnoise: no figure, number 16: there are over 4,096 pixels\n"
+unfolding remarkOf pgmOf beginsP5 numberedOf reasonOf decimalOf places
+of-pgm = refl
+
+pub remark-room : remarkBytes ≡ 291
+remark-room = refl

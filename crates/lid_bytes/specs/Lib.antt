@@ -1,3 +1,4 @@
 pub mod Input
 pub mod Report
+pub mod Remark
 pub mod Examples

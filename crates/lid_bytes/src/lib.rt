@@ -7,6 +7,8 @@ ghost use Rattle.io.specs.Counts.{Counts};
 ghost use Rattle.answer.specs.Fields.{wordsOf};
 ghost use Rattle.lid_bytes.specs.Input.{inputBytes, parsedOf};
 ghost use Rattle.lid_bytes.specs.Report.{reportBytes, reportOf};
+ghost use Rattle.lid_bytes.specs.Remark.{remarkBytes, beginsP5, pgmLine, pgmOf, remarkOf};
+ghost use Rattle.text.specs.Placed.{LaidTo, Fronted};
 use answer::Answer;
 
 // More pixels than this are 16.
@@ -17,6 +19,9 @@ const INPUT_BYTES: usize = 4 + MOST_PIXELS + 1;
 
 // As many as a report may take.
 const REPORT_BYTES: usize = 260;
+
+// As many as a remark may take.
+const REMARK_BYTES: usize = 291;
 
 // Room for an input.
 pub fn input_room() -> [u8; INPUT_BYTES]
@@ -30,6 +35,13 @@ pub fn report_room() -> [u8; REPORT_BYTES]
     ensures { λ r. ⌜ r ≡ replicate reportBytes 0 ⌝ }
 {
     [0u8; REPORT_BYTES]
+}
+
+// Room for a remark.
+pub fn remark_room() -> [u8; REMARK_BYTES]
+    ensures { λ r. ⌜ r ≡ replicate remarkBytes 0 ⌝ }
+{
+    [0u8; REMARK_BYTES]
 }
 
 // The image that an input holds, by its sides, or why it holds none.
@@ -84,4 +96,46 @@ pub fn print(a: Answer, out: &mut [u8]) -> usize
         &kinds,
         &fields,
     )
+}
+
+// Whether an input begins as a binary PGM file does.
+fn begins_p5(input: &[u8]) -> bool
+    ensures { λ r. ⌜ r ≡ beginsP5 (now (input .entry)) ⌝ }
+{
+    if input.len() < 2 {
+        return false;
+    }
+    if input[0] != b'P' {
+        return false;
+    }
+    input[1] == b'5'
+}
+
+// The line on such an input, or nothing, from the front on.
+fn put_pgm(input: &[u8], out: &mut [u8]) -> usize
+    requires { ⌜ length pgmLine ≤ length (now out) ⌝ }
+    ensures { λ r. ⌜ LaidTo (now (out .entry)) 0 (pgmOf (now (input .entry))) r (now (out .exit)) ⌝ }
+{
+    if begins_p5(input) {
+        return text::put(
+            out,
+            0,
+            b"lidnoise: the input begins with P5, as a binary PGM file does; lidnoise reads two bytes of width, two of height, low first, then the pixels\n",
+        );
+    }
+    0
+}
+
+// What is said of an input that has this number, from the front on: answers how long it is.
+pub fn remark(input: &[u8], number: u32, out: &mut [u8]) -> usize
+    requires { ⌜ remarkBytes ≤ length (now out) ⌝ }
+    ensures { λ r. ⌜ Fronted (now (out .entry)) (remarkOf (now (input .entry)) number) r (now (out .exit)) ⌝ }
+    ensures { λ r. ⌜ Counts r (now (out .exit)) ⌝ }
+{
+    if number == 0 {
+        return 0;
+    }
+    let at = put_pgm(input, out);
+    let to = text::put(out, at, b"lidnoise: no figure, ");
+    reasons::put_numbered(out, to, number)
 }

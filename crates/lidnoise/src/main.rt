@@ -1,11 +1,29 @@
-// `lidnoise`: a small lid on standard input, its noise in two lines on standard output.
+// `lidnoise`: a small lid on standard input, its noise in two lines on standard output; on standard error why there is no
+// figure, and what could not be read or written.
+use libc::STDERR_FILENO;
 use libc::STDIN_FILENO;
 use libc::STDOUT_FILENO;
 
 fn main() {
+    if os::arg_count() > 1 {
+        io::write_all(
+            STDERR_FILENO,
+            b"lidnoise: it takes no words and reads a lid from standard input: lidnoise <FILE\n",
+        );
+    }
     let mut input = lid_bytes::input_room();
     let n = io::read_full(STDIN_FILENO, &mut input);
+    // 0 until a call fails
+    if os::errno() != 0 {
+        os::fail(b"lidnoise: standard input");
+    }
     let mut out = lid_bytes::report_room();
-    let k = lid::lidnoise(&input[..n], &mut out);
-    io::write_all(STDOUT_FILENO, &out[..k]);
+    let mut remark = lid_bytes::remark_room();
+    let lengths = lid::lidnoise(&input[..n], &mut out, &mut remark);
+    let written = lengths.output;
+    let said = lengths.remark;
+    if !io::write_all(STDOUT_FILENO, &out[..written]) {
+        os::fail(b"lidnoise: standard output");
+    }
+    io::write_all(STDERR_FILENO, &remark[..said]);
 }

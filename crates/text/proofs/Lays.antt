@@ -7,6 +7,7 @@ use lib.ListN.{length, take, drop, length-append, length-take, length-drop, take
 use Rattle.laws.specs.Lists.{joined}
 use Rattle.laws.proofs.Fill.{Writing, start, put-many, end}
 use Rattle.laws.specs.Lists.{laid}
+use Rattle.text.specs.Placed.{LaidTo, Fronted}
 
 pub long : (out : List ℕ) (at : ℕ) (new : List ℕ) → at + length new ≤ length out → length (laid out at new) ≡ length out
 long out at new h =
@@ -23,6 +24,15 @@ twice out l₁ l₂ at a b h e₁ e₂ = end done ∙ ap (λ (i : ℕ). (take at
 
     done : Writing (take at out ++ (a ++ b)) out (at + length a + length b) l₂ []
     done = put-many b refl (omega (arith, one .long)) e₂ (subst (λ (r : List ℕ). Writing (take at out ++ (a ++ b)) out (at + length a) l₁ r) (sym (append-nil b)) one)
+
+-- the same of calls that lay them
+pub after : (out l₁ l₂ : List ℕ) (at r₁ r₂ : ℕ) (a b : List ℕ) → at + length a + length b ≤ length out → LaidTo out at a r₁ l₁ → LaidTo l₁ r₁ b r₂ l₂ → LaidTo out at (a ++ b) r₂ l₂
+after out l₁ l₂ at r₁ r₂ a b h (p₁, e₁) (p₂, e₂) =
+    (omega (arith, length-append a b), twice out l₁ l₂ at a b h e₁ (e₂ ∙ ap (λ (i : ℕ). laid l₁ i b) p₁))
+
+-- room for m bytes after a text
+pub left : (out l : List ℕ) (at r m : ℕ) (a : List ℕ) → at + length a + m ≤ length out → LaidTo out at a r l → r + m ≤ length l
+left out l at r m a h (p, e) = omega (arith, ap length e ∙ long out at a (omega arith))
 
 -- one row more
 pub joined-last : (rows : ℕ → List ℕ) (k n : ℕ) → joined rows k (suc n) ≡ joined rows k n ++ rows (k + n)
@@ -44,16 +54,10 @@ none out at h = sym (ap (λ (i : ℕ). (take at out ++ []) ++ drop i out) (add-z
     add-zero : (a : ℕ) → a + 0 ≡ a
     add-zero a = omega arith
 
+-- a text from the front on
+pub front : (out l a : List ℕ) (r : ℕ) → LaidTo out 0 a r l → Fronted out a r l
+front out l a r (p, e) = (omega arith, e ∙ ap (λ (i : ℕ). a ++ drop i out) (sym p))
+
 -- two texts one after the other, from the front on
-pub two : (out l₁ l₂ a b : List ℕ) (r₁ r₂ : ℕ) → length a + length b ≤ length out → r₁ ≡ 0 + length a → l₁ ≡ laid out 0 a → r₂ ≡ r₁ + length b → l₂ ≡ laid l₁ r₁ b
-    → (r₂ ≡ length (a ++ b)) × (l₂ ≡ (a ++ b) ++ drop r₂ out)
-two out l₁ l₂ a b r₁ r₂ h p₁ e₁ p₂ e₂ = (whole, both ∙ ap (λ (i : ℕ). (a ++ b) ++ drop i out) (zero-plus (length (a ++ b)) ∙ sym whole))
-  where
-    zero-plus : (n : ℕ) → 0 + n ≡ n
-    zero-plus n = omega arith
-
-    whole : r₂ ≡ length (a ++ b)
-    whole = omega (arith, length-append a b)
-
-    both : l₂ ≡ laid out 0 (a ++ b)
-    both = twice out l₁ l₂ 0 a b (omega arith) e₁ (e₂ ∙ ap (λ (i : ℕ). laid l₁ i b) p₁)
+pub two : (out l₁ l₂ a b : List ℕ) (r₁ r₂ : ℕ) → length a + length b ≤ length out → LaidTo out 0 a r₁ l₁ → LaidTo l₁ r₁ b r₂ l₂ → Fronted out (a ++ b) r₂ l₂
+two out l₁ l₂ a b r₁ r₂ h p₁ p₂ = front out l₂ (a ++ b) r₂ (after out l₁ l₂ 0 r₁ r₂ a b (omega arith) p₁ p₂)

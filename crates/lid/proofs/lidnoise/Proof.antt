@@ -1,6 +1,6 @@
--- The report of the input's answer.
+-- The report of the input's answer, and the remark on its number.
 use denote.Ref.{now}
-use Rattle.lid.proofs.Answers.{answered}
+use Rattle.lid.proofs.Answers.{answered, remarked}
 use borrow.Author.Needs.{needs}
 use Rattle.lid.proofs.lidnoise.Statement.{statement}
 use Rattle.lid.proofs.lidnoise.Tie as tie
@@ -8,6 +8,7 @@ use Rattle.lid.proofs.lidnoise.Reads as reads
 use Rattle.lid.proofs.lidnoise.Lts as lts
 use Rattle.lid.proofs.answer_to.Reads as answer-to-reads
 use Rattle.lid_bytes.proofs.print.Reads as print-reads
+use Rattle.lid_bytes.proofs.remark.Reads as remark-reads
 
 answer-to-requires : tie.Need-answer-to-requires
 answer-to-requires c κs = search needs
@@ -15,14 +16,29 @@ answer-to-requires c κs = search needs
 print-requires : tie.Need-print-requires
 print-requires c κs = search needs
 
+remark-requires : tie.Need-remark-requires
+remark-requires c κs = search needs
+
 same-length : tie.Need-same-length
 same-length c = search needs
 
+same-length-2 : tie.Need-same-length-2
+same-length-2 c = search needs
+
 returns : tie.Need-returns
 returns c =
-    let s = c .before .before .before .before .before .before .before in
-    let p = c .before .before .print in
-    (answered (now (s .args .input)) (c .before .before .before .before .answer-to .result) (now (s .args .out)) (p .last .1 .0) (p .result) (c .before .before .before .before .answer-to .ensures) (p .ensures .0), p .ensures .1)
+    let p = c .before .before .before .before .before .before in
+    let t = p .before .before in
+    let s = t .before .before .before .before in
+    let q = c .before .before .remark in
+    let input = now (s .args .input) in
+    let a = t .answer-to .result in
+    let e = t .answer-to .ensures in (
+      answered input a (now (s .args .out)) (p .print .last .1 .0) (p .print .result) e (p .print .ensures .0),
+      (remarked input a (now (s .args .remark)) (q .last .1 .1 .0) (q .result) e (q .ensures .0), (p .print .ensures .1, q .ensures .1)),
+    )
 
 pub lidnoise-spec : {M : Type 1} → statement M
-lidnoise-spec = tie.close (tie.spec answer-to-requires print-requires same-length returns)
+lidnoise-spec =
+    tie.close
+    (tie.spec answer-to-requires print-requires remark-requires same-length same-length-2 returns)

@@ -27,7 +27,7 @@ returns c =
     let first = c .before .before .before .before .before .before .put in
     let last = c .before .before .put-line in
     two (now (s .args .out)) (first .last .0) (last .last .0) (now (s .args .header)) (lineOf (now (s .args .kinds)) (now (s .args .values))) (first .result) (last .result)
-    (omega (arith, line-short (now (s .args .kinds)) (now (s .args .values)), s .pre .1)) (first .ensures .0) (first .ensures .1) (last .ensures .0) (last .ensures .1)
+    (omega (arith, line-short (now (s .args .kinds)) (now (s .args .values)), s .pre .1)) (first .ensures) (last .ensures)
 
 pub put-report-spec : {M : Type 1} → statement M
 put-report-spec = tie.close (tie.spec put-requires put-line-requires same-length returns)

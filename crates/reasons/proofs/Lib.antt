@@ -1,0 +1,3 @@
+pub mod Said
+pub mod Short
+pub mod Numbered
