@@ -6,7 +6,10 @@
 
 #include <stdbool.h>
 
-enum { HEADER_BYTES = 4 };
+enum {
+    HEADER_BYTES = 4,
+    PGM_WIDTH = 'P' + 256 * '5' /* the width that a header beginning with P5 says */
+};
 
 /* Why a lid could not be read, where the system has no word for it. */
 enum { NOBODY_WRITES = -1 };
@@ -45,6 +48,17 @@ static inline uint64_t bytes_by_header(const struct lid *lid)
 static inline bool fits_its_header(const struct lid *lid)
 {
     return has_header(lid) && !lid->more && lid->length == bytes_by_header(lid);
+}
+
+/* Whether it is taken for a binary PGM file: it begins with P5, and as a lid it would have another length. */
+static inline bool is_pgm(const struct lid *lid)
+{
+    return has_header(lid) && lid->w == PGM_WIDTH && !fits_its_header(lid);
+}
+
+static inline bool has_sides(const struct lid *lid)
+{
+    return has_header(lid) && !is_pgm(lid);
 }
 
 #endif

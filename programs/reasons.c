@@ -5,8 +5,7 @@
 enum {
     LARGEST_SIDE = 16384,
     LEAST_SIDE = 4,
-    LEAST_WINDOWS = 512,
-    PGM_WIDTH = 'P' + 256 * '5' /* the width that a header beginning with P5 says */
+    LEAST_WINDOWS = 512
 };
 
 struct numeral grouped(uint64_t number)
@@ -52,7 +51,7 @@ static void put_not_a_lid(FILE *out, const struct lid *lid)
     } else if (!has_header(lid)) {
         fprintf(out, "a lid begins with %d bytes of width and height; the file has %s", HEADER_BYTES,
                 grouped(lid->length).text);
-    } else if (lid->w == PGM_WIDTH) {
+    } else if (is_pgm(lid)) {
         fputs("a binary PGM file (it begins with P5), not a lid; lids(1) says how to turn it into one", out);
     } else {
         put_other_length(out, lid);

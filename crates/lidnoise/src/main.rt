@@ -11,9 +11,11 @@ fn main() {
             b"lidnoise: it takes no words and reads a lid from standard input: lidnoise <FILE\n",
         );
     }
+    // The program's own name, which is there, sets errno to 0: what stands there after the reading is a failed read's.
+    let mut name = io::buffer();
+    os::arg(0, &mut name);
     let mut input = lid_bytes::input_room();
     let n = io::read_full(STDIN_FILENO, &mut input);
-    // 0 until a call fails
     if os::errno() != 0 {
         os::fail(b"lidnoise: standard input");
     }
