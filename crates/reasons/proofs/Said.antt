@@ -18,7 +18,7 @@ use Rattle.laws.proofs.Fill.{getD-from}
 use Rattle.text.specs.Text.{asBytes}
 use Rattle.text.specs.Placed.{LaidTo}
 use Rattle.reasons.specs.Reasons.{sentences, beside, reasonOf}
-use Rattle.reasons.specs.Parts.{whole, startsFrom, saidOf, textOf, startsOf}
+use Rattle.reasons.specs.Parts.{whole, startsFrom, partsOf, textOf, startsOf}
 
 -- ---- the number's part
 
@@ -75,7 +75,7 @@ module _ {text starts : List ℕ} (whole-is : text ≡ textOf) (starts-are : sta
     said : Cut text (getD starts n 0) (getD starts (n + 1) 0) (asBytes (reasonOf n))
     unfolding textOf startsOf reasonOf
     said =
-        cut-as (cut saidOf [] 0 n refl (among h)) whole-is (ap (λ (l : List ℕ). getD l n 0) starts-are)
+        cut-as (cut partsOf [] 0 n refl (among h)) whole-is (ap (λ (l : List ℕ). getD l n 0) starts-are)
         (ap (λ (l : List ℕ). getD l (n + 1) 0) starts-are ∙ ap (λ (i : ℕ). getD startsOf i 0) (add-one n))
         (getD-from (λ (k : ℕ). asBytes (beside sentences k)) [] (length sentences) 0 n (among h) ∙ ap (λ (k : ℕ). asBytes (beside sentences k)) (plain n))
       where

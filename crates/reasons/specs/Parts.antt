@@ -15,11 +15,11 @@ abbrev pub startsFrom : ℕ → List (List ℕ) → List ℕ
 startsFrom a [] = a ∷ []
 startsFrom a (l ∷ parts) = a ∷ startsFrom (a + length l) parts
 
-abbrev pub saidOf : List (List ℕ)
-saidOf = from (λ n. asBytes (beside sentences n)) 0 (length sentences)
+abbrev pub partsOf : List (List ℕ)
+partsOf = from (λ n. asBytes (beside sentences n)) 0 (length sentences)
 
 unfoldable pub textOf : List ℕ
-textOf = whole saidOf
+textOf = whole partsOf
 
 unfoldable pub startsOf : List ℕ
-startsOf = startsFrom 0 saidOf
+startsOf = startsFrom 0 partsOf
