@@ -1,6 +1,7 @@
 # The usual words, over the scripts of package/ and tests/. CC, AR, CFLAGS and LDFLAGS count as usual.
 PREFIX ?= /usr/local
 DESTDIR ?=
+export PREFIX DESTDIR
 
 all:
 	@package/build
@@ -9,10 +10,10 @@ check:
 	@tests/check
 
 install: all
-	@DESTDIR='$(DESTDIR)' package/install '$(PREFIX)'
+	@package/install "$$PREFIX"
 
 uninstall:
-	@DESTDIR='$(DESTDIR)' package/uninstall '$(PREFIX)'
+	@package/uninstall "$$PREFIX"
 
 help:
 	@echo 'make                         proves and builds into build/'

@@ -10,12 +10,12 @@
 #ifndef VUZGARI_H
 #define VUZGARI_H
 
-#include <stddef.h>
-#include <stdint.h>
-
 #if !defined(__x86_64__) && !defined(_M_X64)
 #error "libvuzgari.a is for x86-64"
 #endif
+
+#include <stddef.h>
+#include <stdint.h>
 
 #ifdef __cplusplus
 extern "C" {

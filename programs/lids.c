@@ -40,7 +40,7 @@ static const char help[] =
     "  width height    as the header says\n"
     "  b0 b1 b2 b3     windows kept in each band of brightness, from dark to bright\n"
     "  rail            windows dropped near black or white\n"
-    "  rounds passes   rounds of averaging; 2 passes where the first has no figure\n"
+    "  rounds passes   until the variances settled; 2 where the first has no figure\n"
     "\n"
     "Status: 0 all lids have figures, 1 some have none, 2 something could not be read\n"
     "or written. lids(1) says more.\n";

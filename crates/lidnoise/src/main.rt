@@ -11,12 +11,11 @@ fn main() {
             b"lidnoise: it takes no words and reads a lid from standard input: lidnoise <FILE\n",
         );
     }
-    // The program's own name, which is there, sets errno to 0: what stands there after the reading is a failed read's.
-    let mut name = io::buffer();
-    os::arg(0, &mut name);
     let mut input = lid_bytes::input_room();
+    let before = os::errno();
     let n = io::read_full(STDIN_FILENO, &mut input);
-    if os::errno() != 0 {
+    // A read that fails sets errno; one that ends the input does not.
+    if os::errno() != before {
         os::fail(b"lidnoise: standard input");
     }
     let mut out = lid_bytes::report_room();
