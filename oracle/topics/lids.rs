@@ -1,4 +1,4 @@
-//! The stored answers of tests/images, to which the example and the guard test are held, beside the original's. The
+//! The stored answers of tests/images, to which lids, lidnoise and the guard test are held, beside the original's. The
 //! images are made here once more, as tests/images/image.h says.
 
 use super::{edge, noise, Run, Topic};
