@@ -1,0 +1,5 @@
+pub mod Layouts
+pub mod Putting
+pub mod Judging
+pub mod Readings
+pub mod Writing

@@ -1,26 +1,24 @@
+-- Each return is what the tests before it leave of the rule.
+use mathlib.Core.Path.{_≡_, sym, ap, _∙_}
 use borrow.Author.Needs.{needs}
+use borrow.Author.Tests.{eq-eqb, ne-eqb}
+use Rattle.record.specs.Rule.{countsTaken}
 use Rattle.record.proofs.counts_taken.Statement.{statement}
 use Rattle.record.proofs.counts_taken.Tie as tie
-use Rattle.record.proofs.counts_taken.Reads as reads
-use Rattle.record.proofs.counts_taken.Lts as lts
-use Rattle.grid.proofs.window_count.Reads as window-count-reads
 
--- src/lib.rt:71:13
 window-count-requires : tie.Need-window-count-requires
 window-count-requires c κs = search needs
 
--- src/lib.rt:72:9
 returns : tie.Need-returns
-returns c = ?
+unfolding countsTaken
+returns c = rw (← c .before .window-count .ensures, eq-eqb _ _ (c .if1 .taken))
 
--- src/lib.rt:74:10
 window-count-requires-2 : tie.Need-window-count-requires-2
 window-count-requires-2 c κs = search needs
 
--- src/lib.rt:67:1
 returns-2 : tie.Need-returns-2
-returns-2 c = ?
+unfolding countsTaken
+returns-2 c = rw (← c .before .before .window-count .ensures, ← c .window-count2 .ensures, ne-eqb _ _ (c .before .if1 .left))
 
 pub counts-taken-spec : {M : Type 1} → statement M
-counts-taken-spec =
-    tie.close (tie.spec window-count-requires returns window-count-requires-2 returns-2)
+counts-taken-spec = tie.close (tie.spec window-count-requires returns window-count-requires-2 returns-2)

@@ -1,42 +1,33 @@
+-- Each field fits 64 bits by its type.
+use native.Mathlib.Omega.{arith}
 use borrow.Author.Needs.{needs}
 use Rattle.record.proofs.fields.Statement.{statement}
 use Rattle.record.proofs.fields.Tie as tie
-use Rattle.record.proofs.fields.Reads as reads
-use Rattle.record.proofs.fields.Lts as lts
 
--- src/lib.rt:197:9
 cast-t2 : tie.Need-cast-t2
 cast-t2 c = search needs
 
--- src/lib.rt:200:9
 cast-t5 : tie.Need-cast-t5
 cast-t5 c = search needs
 
--- src/lib.rt:201:9
 cast-t6 : tie.Need-cast-t6
 cast-t6 c = search needs
 
--- src/lib.rt:202:9
 cast-t7 : tie.Need-cast-t7
 cast-t7 c = search needs
 
--- src/lib.rt:203:9
 cast-t8 : tie.Need-cast-t8
 cast-t8 c = search needs
 
--- src/lib.rt:204:9
 cast-t9 : tie.Need-cast-t9
 cast-t9 c = search needs
 
--- src/lib.rt:205:9
 cast-t10 : tie.Need-cast-t10
 cast-t10 c = search needs
 
--- src/lib.rt:206:9
 cast-t11 : tie.Need-cast-t11
-cast-t11 c = ?
+cast-t11 c = omega (arith, c .struct-known8 .given .1 .1 .1 .1 .1 .1 .1 .1 .1 .0)
 
--- src/lib.rt:193:1
 returns : tie.Need-returns
 returns c = search needs
 

@@ -1,59 +1,55 @@
+-- What is laid and what is still to come make up the fields' bytes.
+use mathlib.Core.Path.{_≡_, refl, sym, _∙_}
+use Prim.Native.Nat.{ℕ, _-_, _≤_, _<_}
+use native.Mathlib.Omega.{arith}
+use lib.ListN.{length, getD, take}
+use lib.Seq.{length-take-le, getD-take}
+use Rattle.record.specs.Records.{formNF}
+use Rattle.record.proofs.Putting.{Laying, lay-start, lay-room, lay-turn, lay-end}
 use Rattle.record.proofs.put_fields.Statement.{statement}
 use Rattle.record.proofs.put_fields.Tie as tie
-use Rattle.record.proofs.put_fields.Reads as reads
-use Rattle.record.proofs.put_fields.Lts as lts
-use Rattle.little_endian.proofs.put.Reads as put-reads
-use Rattle.record.proofs.width.Reads as width-reads
 
 abbrev Inv-loop : tie.InvT-loop
-Inv-loop out₀ xs at₀ k₀ out at k = ?
+Inv-loop out₀ xs at₀ k₀ out at k = Laying (formNF .widths) xs out₀ at k out
 
 abbrev μ-loop : tie.MeasureT-loop
-μ-loop out₀ xs at₀ k₀ out at k = ?
+μ-loop out₀ xs at₀ k₀ out at k = 10 - k
 
--- src/lib.rt:217:5
+inside : (c : tie.In-loop Inv-loop μ-loop) → c .before .loop .k < length (c .before .before .before .args .t2)
+inside c = omega (arith, c .before .before .before .good .1 .0 .1 .0 .1, c .loop-test .taken)
+
 loop-holds : tie.Need-loop-holds Inv-loop μ-loop
-loop-holds c = ?
+loop-holds c = lay-start
 
--- src/lib.rt:218:13
 width-requires : tie.Need-width-requires Inv-loop μ-loop
-width-requires c κs = ?
+width-requires c κs = omega arith
 
--- src/lib.rt:219:17
 mul-x : tie.Need-mul-x Inv-loop μ-loop
-mul-x c = ?
+mul-x c = omega arith
 
--- src/lib.rt:219:17
 array-read-x : tie.Need-array-read-x Inv-loop μ-loop
-array-read-x c = ?
+array-read-x c = omega arith
 
--- src/lib.rt:220:9
 put-requires : tie.Need-put-requires Inv-loop μ-loop
-put-requires c κs = ?
+put-requires c κs = lay-room (c .before .before .before .loop .inv) (c .before .before .loop-test .taken) (inside (c .before .before)) (c .before .width .ensures) (c .before .before .before .before .before .pre)
 
--- src/lib.rt:221:9
 add-at : tie.Need-add-at Inv-loop μ-loop
-add-at c = ?
+add-at c = omega (arith, lay-room (c .before .before .before .before .before .before .loop .inv) (c .before .before .before .before .before .loop-test .taken) (inside (c .before .before .before .before .before)) (c .before .before .before .before .width .ensures) (c .before .before .before .before .before .before .before .before .pre), c .before .before .before .before .before .before .loop .inv .long)
 
--- src/lib.rt:222:9
 add-k : tie.Need-add-k Inv-loop μ-loop
-add-k c = ?
+add-k c = omega arith
 
--- src/lib.rt:217:5
 loop-less : tie.Need-loop-less Inv-loop μ-loop
-loop-less c = ?
+loop-less c = omega arith
 
--- src/lib.rt:217:5
 loop-again : tie.Need-loop-again Inv-loop μ-loop
-loop-again c = ?
+loop-again c = lay-turn (c .before .before .before .before .before .before .loop .inv) (c .before .before .before .before .before .loop-test .taken) (inside (c .before .before .before .before .before)) (c .before .before .before .before .width .ensures) (c .before .before .before .before .before .before .before .before .pre) refl (c .before .before .put .ensures)
 
--- src/lib.rt:211:1
 same-length : tie.Need-same-length Inv-loop μ-loop
-same-length c = ?
+same-length c = c .before .loop .inv .long
 
--- src/lib.rt:211:1
 returns : tie.Need-returns Inv-loop μ-loop
-returns c = ?
+returns c = lay-end (c .before .loop .inv) (c .loop-test .left)
 
 pub put-fields-spec : {M : Type 1} → statement M
 put-fields-spec =

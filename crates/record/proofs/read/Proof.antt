@@ -1,39 +1,38 @@
+-- Each return by the tests that lead there.
+use mathlib.Core.Path.{sym, _∙_}
+use borrow.Author.Tests.{not-true, not-false}
+use Rattle.record.specs.Records.{formNF}
+use Rattle.record.proofs.Readings.{short, foreign, broken, given}
 use borrow.Author.Needs.{needs}
 use Rattle.record.proofs.read.Statement.{statement}
 use Rattle.record.proofs.read.Tie as tie
-use Rattle.record.proofs.read.Reads as reads
-use Rattle.record.proofs.read.Lts as lts
-use Rattle.record.proofs.allowed.Reads as allowed-reads
-use Rattle.record.proofs.marked.Reads as marked-reads
-use Rattle.record.proofs.record_in.Reads as record-in-reads
 
--- src/lib.rt:162:9
 returns : tie.Need-returns
-returns c = ?
+returns c = short formNF _ (c .if1 .taken)
 
--- src/lib.rt:164:9
 marked-requires : tie.Need-marked-requires
 marked-requires c κs = search needs
 
--- src/lib.rt:165:9
 returns-2 : tie.Need-returns-2
-returns-2 c = ?
+returns-2 c = foreign formNF _ (c .before .before .if1 .left) (sym (c .before .marked .ensures) ∙ not-true _ (c .if2 .taken))
 
--- src/lib.rt:167:9
 record-in-requires : tie.Need-record-in-requires
 record-in-requires c κs = search needs
 
--- src/lib.rt:168:9
 allowed-requires : tie.Need-allowed-requires
 allowed-requires c κs = search needs
 
--- src/lib.rt:169:9
 returns-3 : tie.Need-returns-3
-returns-3 c = ?
+returns-3 c =
+    broken formNF _ (c .before .before .before .before .before .if1 .left)
+    (sym (c .before .before .before .before .marked .ensures) ∙ not-false _ (c .before .before .before .if2 .left))
+    _ (c .before .before .record-in .ensures) (sym (c .before .allowed .ensures) ∙ not-true _ (c .if3 .taken))
 
--- src/lib.rt:158:1
 returns-4 : tie.Need-returns-4
-returns-4 c = ?
+returns-4 c =
+    given formNF _ (c .before .before .before .before .before .if1 .left)
+    (sym (c .before .before .before .before .marked .ensures) ∙ not-false _ (c .before .before .before .if2 .left))
+    _ (c .before .before .record-in .ensures) (sym (c .before .allowed .ensures) ∙ not-false _ (c .if3 .left))
 
 pub read-spec : {M : Type 1} → statement M
 read-spec =

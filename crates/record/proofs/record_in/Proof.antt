@@ -1,54 +1,56 @@
+-- Ten fields at the places of their bytes.
+use mathlib.Core.Path.{_≡_, ap, _∙_}
+use mathlib.Core.List.{List}
+use Prim.Native.Nat.{ℕ}
+use Rattle.record.specs.declared.Record.{Record}
+use Rattle.record.specs.Records.{formNF, recordOf}
+use Rattle.record.proofs.Layouts.{numbers-at}
 use borrow.Author.Needs.{needs}
 use Rattle.record.proofs.record_in.Statement.{statement}
 use Rattle.record.proofs.record_in.Tie as tie
-use Rattle.record.proofs.record_in.Reads as reads
-use Rattle.record.proofs.record_in.Lts as lts
-use Rattle.record.proofs.get.Reads as get-reads
-use Rattle.record.proofs.get_side.Reads as get-side-reads
 
--- src/lib.rt:144:15
+same : {a b c d e f g h i j a′ b′ c′ d′ e′ f′ g′ h′ i′ j′ : ℕ}
+    → a ≡ a′ → b ≡ b′ → c ≡ c′ → d ≡ d′ → e ≡ e′ → f ≡ f′ → g ≡ g′ → h ≡ h′ → i ≡ i′ → j ≡ j′
+    → _≡_ {A = Record} (record { shot = a; width = b; height = c; answer = d; sigma = e; b0 = f; b1 = g; b2 = h; b3 = i; rail = j })
+    (record { shot = a′; width = b′; height = c′; answer = d′; sigma = e′; b0 = f′; b1 = g′; b2 = h′; b3 = i′; rail = j′ })
+same p q r s t u v w x y = cc
+
 get-requires : tie.Need-get-requires
 get-requires c κs = search needs
 
--- src/lib.rt:145:16
 get-side-requires : tie.Need-get-side-requires
 get-side-requires c κs = search needs
 
--- src/lib.rt:146:17
 get-side-requires-2 : tie.Need-get-side-requires-2
 get-side-requires-2 c κs = search needs
 
--- src/lib.rt:147:17
 get-requires-2 : tie.Need-get-requires-2
 get-requires-2 c κs = search needs
 
--- src/lib.rt:148:16
 get-requires-3 : tie.Need-get-requires-3
 get-requires-3 c κs = search needs
 
--- src/lib.rt:149:13
 get-requires-4 : tie.Need-get-requires-4
 get-requires-4 c κs = search needs
 
--- src/lib.rt:150:13
 get-requires-5 : tie.Need-get-requires-5
 get-requires-5 c κs = search needs
 
--- src/lib.rt:151:13
 get-requires-6 : tie.Need-get-requires-6
 get-requires-6 c κs = search needs
 
--- src/lib.rt:152:13
 get-requires-7 : tie.Need-get-requires-7
 get-requires-7 c κs = search needs
 
--- src/lib.rt:153:15
 get-requires-8 : tie.Need-get-requires-8
 get-requires-8 c κs = search needs
 
--- src/lib.rt:139:1
 returns : tie.Need-returns
-returns c = ?
+returns c =
+    let last = c .before .before .before .before .before .before .before .before .before in
+    same (last .get .ensures) (c .before .before .before .before .before .before .before .before .get-side .ensures) (c .before .before .before .before .before .before .before .get-side2 .ensures) (c .before .before .before .before .before .before .get2 .ensures) (c .before .before .before .before .before .get3 .ensures)
+    (c .before .before .before .before .get4 .ensures) (c .before .before .before .get5 .ensures) (c .before .before .get6 .ensures) (c .before .get7 .ensures) (c .get8 .ensures)
+    ∙ ap recordOf (numbers-at (formNF .widths) 2 (last .before .before .args .bytes .now) (last .before .before .pre))
 
 pub record-in-spec : {M : Type 1} → statement M
 record-in-spec =
