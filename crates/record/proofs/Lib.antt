@@ -3,3 +3,5 @@ pub mod Putting
 pub mod Judging
 pub mod Readings
 pub mod Writing
+pub mod Demand1
+pub mod RoundTrip

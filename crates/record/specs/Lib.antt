@@ -3,4 +3,5 @@ pub mod Layout
 pub mod Rule
 pub mod Records
 pub mod Demand1
+pub mod RoundTrip
 pub mod Examples
