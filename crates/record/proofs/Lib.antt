@@ -5,3 +5,4 @@ pub mod Readings
 pub mod Writing
 pub mod Demand1
 pub mod RoundTrip
+pub mod Sigma

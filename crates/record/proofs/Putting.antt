@@ -4,7 +4,7 @@ use mathlib.Core.List.{List, [], _∷_, _++_}
 use Prim.Native.Nat.{ℕ, zero, suc, _+_, _≤_, _<_}
 use native.Mathlib.Numerals.{add-one}
 use native.Mathlib.Omega.{arith}
-use lib.ListN.{length, getD, take, drop, set, drop-of-length-le}
+use lib.ListN.{length, getD, take, drop, set, length-set, drop-of-length-le}
 use lib.Seq.{drop-cons}
 use Rattle.laws.proofs.Fill.{Writing, start, put, put-many, end}
 use Rattle.laws.specs.Lists.{laid}
@@ -58,7 +58,11 @@ module _ {ns xs out₀ : List ℕ} where
       whole : at ≡ 2 + total ns
       whole = omega (arith, i .left, ap total none)
 
--- two bytes over the first two
+-- ---- two bytes over the first two
+
+pub second-place : (l : List ℕ) (v : ℕ) → 35 ≤ length l → 1 < length (set l 0 v)
+second-place l v h = omega (arith, length-set l 0 v)
+
 pub over-two : (l p r : List ℕ) (a b : ℕ) → 2 ≤ length l → set (set ((take 2 l ++ p) ++ r) 0 a) 1 b ≡ (a ∷ b ∷ p) ++ r
 over-two [] p r a b h = absurd (none h)
   where

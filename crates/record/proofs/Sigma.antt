@@ -21,11 +21,8 @@ use Rattle.ieee.proofs.BoundedPatterns.{bounded-bits}
 use Rattle.ieee.proofs.FromZero.{from-zero-to}
 use Rattle.ieee.proofs.Reading.{read-low, read-high, digits-few}
 use Rattle.record.specs.Rule.{thousandBits, Allowed}
+use Rattle.record.specs.Sigma.{ToThousand}
 use Rattle.record.specs.declared.Record.{Record}
-
--- 0 to 1,000 without a minus sign, as the machine compares: no NaN is at most 1,000, and minus zero has the sign
-abbrev pub ToThousand : Float → Type 0
-ToThousand x = (negative x ≡ false) × T (le plusZero x) × T (le x (f32Of 1000))
 
 -- ---- 1,000
 holds : HoldsWhole binary32 1000

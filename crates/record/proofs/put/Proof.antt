@@ -3,10 +3,10 @@ use mathlib.Core.Path.{ap, _∙_}
 use mathlib.Core.List.{List, _∷_, _++_}
 use Prim.Native.Nat.{ℕ}
 use native.Mathlib.Omega.{arith}
-use lib.ListN.{drop, set, length-set}
+use lib.ListN.{drop, set}
 use Rattle.record.specs.Layout.{bytesIn}
 use Rattle.record.specs.Records.{formNF, bytesAs}
-use Rattle.record.proofs.Putting.{over-two}
+use Rattle.record.proofs.Putting.{second-place, over-two}
 use borrow.Author.Needs.{needs}
 use Rattle.record.proofs.put.Statement.{statement}
 use Rattle.record.proofs.put.Tie as tie
@@ -23,7 +23,7 @@ slice-write-out c = search needs
 slice-write-out-2 : tie.Need-slice-write-out-2
 slice-write-out-2 c =
     let laid = c .before .before .put-fields in
-    omega (arith, length-set (laid .last .0) 0 0x4E, laid .kept .0, c .before .before .before .before .before .before .pre)
+    second-place (laid .last .0) _ (omega (arith, laid .kept .0, c .before .before .before .before .before .before .pre))
 
 same-length : tie.Need-same-length
 same-length c = search needs
