@@ -1,4 +1,6 @@
 pub mod Codes
 pub mod Noise
+pub mod Records
 pub mod Demand1
+pub mod Logged
 pub mod Examples

@@ -1,11 +1,15 @@
 // The calls that the capture program makes from C. A lent slice is two arguments there, a pointer and the number of elements.
 ghost use mathlib.Core.Path.{_≡_};
-ghost use mathlib.Core.List.{[], _∷_};
+ghost use mathlib.Core.List.{[], _∷_, _++_};
+ghost use Prim.Native.Nat.{_≤_};
+ghost use lib.ListN.{length, drop};
 ghost use Rattle.grid.specs.Needed.{sizingOf};
 ghost use Rattle.edge.specs.Edge.{edge};
 ghost use Rattle.noise.specs.Call.{leftInts, leftFloats};
 ghost use Rattle.vuzgari.specs.Codes.{sizeCode, widthCode};
 ghost use Rattle.vuzgari.specs.Noise.{noiseFor, leftBytes};
+ghost use Rattle.vuzgari.specs.Records.{writtenFor, readFor};
+use record::Reading;
 use tile::EdgeWidth;
 
 // M for an image of w by h, or 4,294,967,296 plus the number of a refusal. The noise call needs 3M i32 and 2M + 2 f32.
@@ -76,4 +80,56 @@ pub extern "C" fn vuzgari_edge_width(
     ensures { λ r. ⌜ r ≡ widthCode (edge (now (pixels .entry)) width height (ox ∷ oy ∷ []) (cx ∷ cy ∷ [])) ⌝ }
 {
     width_code(edge::view_edge_width(pixels, width, height, [ox, oy], [cx, cy]))
+}
+
+// Writes the record of a shot from the image's sides and the answer slice as the noise call left it: 4 where that has under 40
+// bytes, then 19, then 18. A refused call changes nothing; bytes past 35 stay.
+#[no_mangle]
+pub extern "C" fn vuzgari_record_write(
+    shot: u32,
+    w: usize,
+    h: usize,
+    answer: &[u8],
+    out: &mut [u8],
+) -> u32
+    ensures { λ r. ⌜ (r ≡ writtenFor shot w h (now (answer .entry)) (now (out .entry)) .number)
+        × (now (out .exit) ≡ writtenFor shot w h (now (answer .entry)) (now (out .entry)) .bytes) ⌝ }
+{
+    if answer.len() < 40 {
+        return 4;
+    }
+    let r = logging::record_from(shot, w, h, answer);
+    record::write(r, out)
+}
+
+// Ten numbers from the front on. Those beyond stay.
+fn put_fields(fields: &mut [u64], xs: [u64; 10])
+    requires { ⌜ 10 ≤ length (now fields) ⌝ }
+    ensures { λ _. ⌜ now (fields .exit) ≡ xs ++ drop 10 (now (fields .entry)) ⌝ }
+{
+    let mut k = 0;
+    while k < 10 {
+        let x = xs[k];
+        fields[k] = x;
+        k += 1;
+    }
+}
+
+// Reads the record at the front of `bytes` into ten fields: 4 where fewer are lent, then 18, 17, 19. A refused call changes
+// nothing; fields past ten stay, and bytes past 35 are not read.
+#[no_mangle]
+pub extern "C" fn vuzgari_record_read(bytes: &[u8], fields: &mut [u64]) -> u32
+    ensures { λ n. ⌜ (n ≡ readFor (now (bytes .entry)) (now (fields .entry)) .number)
+        × (now (fields .exit) ≡ readFor (now (bytes .entry)) (now (fields .entry)) .fields) ⌝ }
+{
+    if fields.len() < 10 {
+        return 4;
+    }
+    match record::read(bytes) {
+        Reading::Given(r) => {
+            put_fields(fields, record::fields(r));
+            0
+        }
+        Reading::Refused(n) => n,
+    }
 }

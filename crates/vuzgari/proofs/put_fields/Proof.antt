@@ -1,0 +1,66 @@
+-- `put_fields` meets its contract: each turn stores one number behind those before.
+use mathlib.Core.Path.{refl, ap, _∙_}
+use mathlib.Core.List.{List, _++_}
+use Prim.Native.Nat.{ℕ, _-_}
+use native.Mathlib.Omega.{arith}
+use denote.Ref.{now}
+use lib.ListN.{getD, drop}
+use Rattle.laws.proofs.Fill.{Front, front-start, front-put, front-end}
+use Rattle.vuzgari.proofs.Recording.{all-ten}
+use Rattle.vuzgari.proofs.put_fields.Statement.{statement}
+use Rattle.vuzgari.proofs.put_fields.Tie as tie
+
+abbrev Inv-loop : tie.InvT-loop
+Inv-loop fields₀ xs k₀ fields k = Front (λ i. getD xs i 0) fields₀ 10 k fields
+
+abbrev μ-loop : tie.MeasureT-loop
+μ-loop fields₀ xs k₀ fields k = 10 - k
+
+loop-holds : tie.Need-loop-holds Inv-loop μ-loop
+loop-holds c = front-start
+
+mul-x : tie.Need-mul-x Inv-loop μ-loop
+mul-x c = omega arith
+
+array-read-x : tie.Need-array-read-x Inv-loop μ-loop
+array-read-x c = omega arith
+
+mul-fields : tie.Need-mul-fields Inv-loop μ-loop
+mul-fields c = omega arith
+
+slice-write-fields : tie.Need-slice-write-fields Inv-loop μ-loop
+slice-write-fields c = omega (arith, c .before .loop .inv .long)
+
+add-k : tie.Need-add-k Inv-loop μ-loop
+add-k c = omega arith
+
+loop-less : tie.Need-loop-less Inv-loop μ-loop
+loop-less c = omega arith
+
+loop-again : tie.Need-loop-again Inv-loop μ-loop
+loop-again c = front-put (c .before .loop .inv) (c .loop-test .taken) (c .before .before .pre) refl
+
+same-length : tie.Need-same-length Inv-loop μ-loop
+same-length c = c .before .loop .inv .long
+
+returns : tie.Need-returns Inv-loop μ-loop
+returns c =
+    let s = c .before .before in
+    front-end (c .before .loop .inv) (c .loop-test .left) ∙ ap (λ (l : List ℕ). l ++ drop 10 (now (s .args .fields))) (all-ten (s .args .t2) (s .good .1 .0 .1 .0 .1))
+
+pub put-fields-spec : {M : Type 1} → statement M
+put-fields-spec =
+    tie.close
+    (tie.spec
+    Inv-loop
+    μ-loop
+    loop-holds
+    mul-x
+    array-read-x
+    mul-fields
+    slice-write-fields
+    add-k
+    loop-less
+    loop-again
+    same-length
+    returns)
