@@ -1,7 +1,10 @@
--- What C gets: numbers past 4,294,967,296, 4 for a short answer slice, and the answer's bytes before what stood beyond them.
+-- What C gets: numbers past 4,294,967,296, 4 for a short answer slice, the answer's bytes before what stood beyond them, and a
+-- record written from an answer slice and read into fields.
 use mathlib.Core.Path.{_≡_, refl}
-use mathlib.Core.List.{[], _∷_, _++_}
+use mathlib.Core.List.{List, [], _∷_, _++_}
+use Prim.Native.Nat.{ℕ}
 use lib.ListN.{replicate}
+use Rattle.little_endian.specs.Bytes.{bytesOf, valueOf}
 use Rattle.grid.specs.Step.{stepOf}
 use Rattle.grid.specs.Grid.{placesOf}
 use Rattle.grid.specs.Needed.{neededOf}
@@ -10,8 +13,12 @@ use Rattle.tile.specs.declared.EdgeWidth.the-variants.{Refused}
 use Rattle.answer.specs.Fields.{answerBytes}
 use Rattle.noise.specs.Refusals.{refusalOf}
 use Rattle.noise.specs.Call.{refused}
+use Rattle.record.specs.Layout.{bytesIn, numbersIn}
+use Rattle.record.specs.Rule.{storedAnswer, sigmaTaken, countsTaken, allowed}
+use Rattle.record.specs.Records.{bytesAs, writtenAs, readAs}
 use Rattle.vuzgari.specs.Codes.{sizeCode, widthCode}
 use Rattle.vuzgari.specs.Noise.{shortFor, leftBytes}
+use Rattle.vuzgari.specs.Records.{writtenFor, readFor}
 
 pub sizes : (sizeCode (Windows 9174) ≡ 9174) × (sizeCode SideAbove ≡ 4294967297) × (sizeCode SideBelow ≡ 4294967299)
 sizes = (refl, refl, refl)
@@ -30,3 +37,45 @@ bytes-written = refl
 
 pub bytes-kept : leftBytes (replicate 40 9 ++ (8 ∷ 7 ∷ [])) (refused 4) ≡ replicate 40 9 ++ (8 ∷ 7 ∷ [])
 bytes-kept = refl
+
+-- ---- records
+
+-- the answer slice of a 4 by 4 image, whose one window is in the first band: number 5 in two bytes, then milli 99, rounds 98 and
+-- passes 97, which no record keeps, and one byte beyond
+abbrev oneWindow : ℕ → ℕ → List ℕ
+oneWindow low high =
+    low ∷ high ∷ 0 ∷ 0 ∷ 0 ∷ 0 ∷ 0 ∷ 0 ∷ 99 ∷ 0 ∷ 0 ∷ 0 ∷ 1 ∷ 0 ∷ 0 ∷ 0 ∷ 0 ∷ 0 ∷ 0 ∷ 0 ∷ 0 ∷ 0 ∷ 0 ∷ 0 ∷ 0 ∷ 0 ∷ 0 ∷ 0 ∷ 0 ∷ 0 ∷ 0
+    ∷ 0 ∷ 98 ∷ 0 ∷ 0 ∷ 0 ∷ 97 ∷ 0 ∷ 0 ∷ 0 ∷ 9 ∷ []
+
+-- its record for shot 7
+abbrev logBytes : List ℕ
+logBytes = 0x4E ∷ 0x46 ∷ 7 ∷ 0 ∷ 0 ∷ 0 ∷ 4 ∷ 0 ∷ 4 ∷ 0 ∷ 5 ∷ 0 ∷ 0 ∷ 0 ∷ 0 ∷ 1 ∷ replicate 19 0
+
+pub record-written : writtenFor 7 4 4 (oneWindow 5 0) (replicate 36 8) ≡ record { number = 0; bytes = logBytes ++ (8 ∷ []) }
+unfolding writtenFor writtenAs bytesAs bytesIn bytesOf valueOf allowed storedAnswer sigmaTaken countsTaken placesOf stepOf
+record-written = refl
+
+-- a width of 65,540 or an answer of 256 + 5 is not cut to what fits
+pub not-cut : (writtenFor 7 65540 4 (oneWindow 5 0) (replicate 36 8) ≡ record { number = 19; bytes = replicate 36 8 })
+    × (writtenFor 7 4 4 (oneWindow 5 1) (replicate 36 8) ≡ record { number = 19; bytes = replicate 36 8 })
+unfolding writtenFor writtenAs valueOf allowed storedAnswer
+not-cut = (refl, refl)
+
+-- 4, then 19, then 18: no side is allowed and there is no room; then one cause less each
+pub write-order : (writtenFor 7 0 0 (replicate 39 0) [] .number ≡ 4) × (writtenFor 7 0 0 (oneWindow 5 0) [] .number ≡ 19)
+    × (writtenFor 7 4 4 (oneWindow 5 0) (replicate 34 8) .number ≡ 18)
+unfolding writtenFor writtenAs valueOf allowed storedAnswer sigmaTaken countsTaken placesOf stepOf
+write-order = (refl, refl, refl)
+
+-- two fields beyond stay
+pub record-read : readFor logBytes (replicate 12 8) ≡ record { number = 0; fields = 7 ∷ 4 ∷ 4 ∷ 5 ∷ 0 ∷ 1 ∷ 0 ∷ 0 ∷ 0 ∷ 0 ∷ 8 ∷ 8 ∷ [] }
+unfolding readFor readAs numbersIn valueOf allowed storedAnswer sigmaTaken countsTaken placesOf stepOf
+record-read = refl
+
+-- 4, then 18, 17, 19
+pub read-order : (readFor [] (replicate 9 8) ≡ record { number = 4; fields = replicate 9 8 })
+    × (readFor (replicate 34 0) (replicate 10 8) ≡ record { number = 18; fields = replicate 10 8 })
+    × (readFor (replicate 35 0) (replicate 10 8) ≡ record { number = 17; fields = replicate 10 8 })
+    × (readFor (0x4E ∷ 0x46 ∷ replicate 33 0) (replicate 10 8) ≡ record { number = 19; fields = replicate 10 8 })
+unfolding readFor readAs numbersIn valueOf allowed
+read-order = (refl, refl, refl, refl)
