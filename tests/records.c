@@ -26,6 +26,9 @@ static const uint8_t good_bytes[BYTES] = {
     0x00, 0x2C, 0x01, 0x00, 0x00, 0xC8, 0x00, 0x00, 0x00, 0x50, 0x00, 0x00, 0x00, 0x08, 0x00, 0x00, 0x00,
 };
 
+/* The same with sides that break the rule, one too low and one too high. */
+static const struct shot bad = {0x01020304, 3, 16385, {0, 0x40490FDB, 3141, 600, 300, 200, 80, 8, 4, 1}};
+
 /* 26 by 26 has 529 windows in either pass, 91 by 91 has 44 x 44 and 88 x 88. 16,384 by 4 has one row of 16,381 places:
    the first pass looks at every third, the second at every other one. */
 static const struct named taken[] = {
@@ -223,13 +226,18 @@ static void take(const struct shot *shot)
     close_room(&answer);
 }
 
+/* A record that breaks the rule: 19, after 4 and before 18 in writing, after 4 and 18 in reading. */
 static void refuse(const struct shot *shot)
 {
     write_refused(shot, VUZGARI_ANSWER_BYTES, BYTES, VUZGARI_BROKEN_RULE);
+    write_refused(shot, VUZGARI_ANSWER_BYTES, BYTES - 1, VUZGARI_BROKEN_RULE);
+    write_refused(shot, VUZGARI_ANSWER_BYTES - 1, BYTES - 1, VUZGARI_SHORT_SLICE);
     if (fits(shot)) {
         uint8_t bytes[BYTES];
         bytes_of(shot, bytes);
         read_refused(bytes, BYTES, FIELDS, VUZGARI_BROKEN_RULE);
+        read_refused(bytes, BYTES - 1, FIELDS, VUZGARI_SHORT_RECORD);
+        read_refused(bytes, BYTES - 1, FIELDS - 1, VUZGARI_SHORT_SLICE);
     }
 }
 
@@ -277,8 +285,6 @@ static void answers(void)
 static void marks(void)
 {
     begin("record", "another mark");
-    struct shot bad = good;
-    bad.h = 3;
     for (size_t at = 0; at < 2; at++) {
         for (unsigned byte = 0; byte < 256; byte++) {
             uint8_t bytes[BYTES];
@@ -306,8 +312,6 @@ enum { LONGEST = 40 };
 /* 4 before 19 before 18, at every length of both slices. */
 static void write_lengths(void)
 {
-    struct shot bad = good;
-    bad.h = 3;
     begin("record", "write, every length of the answer");
     for (size_t bytes = 0; bytes < VUZGARI_ANSWER_BYTES; bytes++) {
         write_refused(&good, bytes, BYTES, VUZGARI_SHORT_SLICE);
@@ -336,8 +340,6 @@ static void write_lengths(void)
 /* 4 before 18 before 17 before 19, at every length of both slices. */
 static void read_lengths(void)
 {
-    struct shot bad = good;
-    bad.h = 3;
     uint8_t unmarked[BYTES], broken_bytes[BYTES];
     bytes_of(&bad, broken_bytes);
     memcpy(unmarked, broken_bytes, BYTES);
