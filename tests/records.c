@@ -162,7 +162,8 @@ static uint32_t call_write(const struct shot *shot, const struct room *answer, s
 static uint32_t call_read(const struct room *bytes, struct room *fields)
 {
     calls++;
-    return vuzgari_record_read(bytes->at, bytes->bytes, (uint64_t *)(void *)fields->at, fields->bytes / sizeof(uint64_t));
+    return vuzgari_record_read(bytes->at, bytes->bytes,
+                               (uint64_t *)(void *)fields->at, fields->bytes / sizeof(uint64_t));
 }
 
 /* Reads a record that is taken, into `count` fields or more. */
