@@ -6,7 +6,7 @@
    - a pointer may be null only where its length is 0; others point to that many elements, aligned for their type;
    - the processor's floating-point mode is the default one (round to nearest, subnormals kept).
    Nothing is kept after a call, nothing is allocated, and a call touches no memory but what it is lent and its stack:
-   calls on memory of their own may run at the same time. Pixels are only read. */
+   calls on memory of their own may run at the same time. Pixels, and all else that is lent as const, are only read. */
 #ifndef VUZGARI_H
 #define VUZGARI_H
 
@@ -23,29 +23,32 @@ extern "C" {
 
 /* The version of this header; the archive has its own, vuzgari_version(). 0.n promises nothing to programs built with
    another n: a change of a call raises it. */
-#define VUZGARI_VERSION "0.1"
+#define VUZGARI_VERSION "0.2"
 
 const char *vuzgari_version(void);
 
 /* Why there is a figure or none. A call gives the first number that applies, in the order that the call names. */
 enum vuzgari_number {
-    VUZGARI_GIVEN = 0,        /* there is a figure */
-    VUZGARI_SIDE_ABOVE = 1,   /* a side is above 16,384 */
-    VUZGARI_OTHER_LENGTH = 2, /* the pixel slice is not width x height long */
-    VUZGARI_SIDE_BELOW = 3,   /* a side is below 4: a window needs 4 by 4 pixels */
-    VUZGARI_SHORT_SLICE = 4,  /* a work slice or the answer slice is too short */
-    VUZGARI_FEW = 5,          /* under 512 windows are kept: the lid is small, or too much of it is near black or white */
-    VUZGARI_NONE = 6,         /* no band of brightness has a variance: there is no quiet area */
-    VUZGARI_THIN = 7,         /* the bands that join hold under 512 windows: there is too little quiet area */
-    VUZGARI_FAR = 8,          /* a part of the centre or of the origin is beyond 1,000,000 either way */
-    VUZGARI_FLAT = 9,         /* the patch is flat once it is smoothed: there is no edge to measure */
-    VUZGARI_SUPPORT = 10,     /* the side of the support is above 32 */
-    VUZGARI_OUTSIDE = 11,     /* the pixel is outside the support */
-    VUZGARI_FLOAT_RANGE = 12, /* a float is outside its range */
-    VUZGARI_NOT_FINITE = 13,  /* a covariance or a model has a component that is not finite */
-    VUZGARI_KNOTS = 14,       /* there is no knot, there are over 16, or their widths do not rise strictly */
-    VUZGARI_NOT_A_LID = 15,   /* the input is not 4 + width x height bytes long */
-    VUZGARI_MANY_PIXELS = 16  /* there are over 4,096 pixels */
+    VUZGARI_GIVEN = 0,         /* there is a figure */
+    VUZGARI_SIDE_ABOVE = 1,    /* a side is above 16,384 */
+    VUZGARI_OTHER_LENGTH = 2,  /* the pixel slice is not width x height long */
+    VUZGARI_SIDE_BELOW = 3,    /* a side is below 4: a window needs 4 by 4 pixels */
+    VUZGARI_SHORT_SLICE = 4,   /* a work slice or the answer slice is too short */
+    VUZGARI_FEW = 5,           /* under 512 windows are kept: the lid is small, or too much of it is near black or white */
+    VUZGARI_NONE = 6,          /* no band of brightness has a variance: there is no quiet area */
+    VUZGARI_THIN = 7,          /* the bands that join hold under 512 windows: there is too little quiet area */
+    VUZGARI_FAR = 8,           /* a part of the centre or of the origin is beyond 1,000,000 either way */
+    VUZGARI_FLAT = 9,          /* the patch is flat once it is smoothed: there is no edge to measure */
+    VUZGARI_SUPPORT = 10,      /* the side of the support is above 32 */
+    VUZGARI_OUTSIDE = 11,      /* the pixel is outside the support */
+    VUZGARI_FLOAT_RANGE = 12,  /* a float is outside its range */
+    VUZGARI_NOT_FINITE = 13,   /* a covariance or a model has a component that is not finite */
+    VUZGARI_KNOTS = 14,        /* there is no knot, there are over 16, or their widths do not rise strictly */
+    VUZGARI_NOT_A_LID = 15,    /* the input is not 4 + width x height bytes long */
+    VUZGARI_MANY_PIXELS = 16,  /* there are over 4,096 pixels */
+    VUZGARI_OTHER_MARK = 17,   /* the bytes do not begin with a record's mark */
+    VUZGARI_SHORT_RECORD = 18, /* the slice is shorter than a record */
+    VUZGARI_BROKEN_RULE = 19   /* a field of the record breaks the rule */
 };
 
 /* The sentence of a number, as above, for a person; of any other number, that it is none. It stays valid for ever. */
@@ -88,6 +91,43 @@ struct vuzgari_answer {
 
 /* The answer in the first 40 bytes that the noise call wrote. */
 struct vuzgari_answer vuzgari_answer_from(const uint8_t *bytes);
+
+/* How many bytes the record of a shot takes, and how many fields it has. */
+#define VUZGARI_RECORD_BYTES 35
+#define VUZGARI_RECORD_FIELDS 10
+
+/* Writes the record of a shot: its number, the sides of its image, and the noise call's answer. Lent are at least 40
+   bytes of `answer` as the noise call wrote them, which are only read (milli, rounds and passes are not looked at), and
+   at least 35 bytes for the record. Returns the first of 4 (a short answer), 19, 18 (a short `out`), or 0. After 0 the
+   first 35 bytes of `out` are the record: hex 4E 46, then, low byte first, the fields of struct vuzgari_record in its
+   order, 4 bytes each, but 2 for width and height and 1 for the answer. What is lent beyond is unchanged; after a
+   refusal everything is.
+
+   The rule: sides are 4 to 16,384. The answer is 0, 5, 6 or 7. With 0, sigma is 0 to 1,000 without a minus sign, and at
+   least 512 windows are kept; with the others its bits are zero. The windows kept and dropped are, together, those of
+   one of the two passes. What the noise call answers with 0, 5, 6 or 7 keeps the rule, with the sides of its image; a
+   field too wide for its bytes breaks it and is never cut. */
+uint32_t vuzgari_record_write(uint32_t shot, size_t w, size_t h, const uint8_t *answer, size_t answer_len,
+                              uint8_t *out, size_t out_len);
+
+/* Reads a record. Lent are at least 35 bytes, of which the first 35 are read, and at least 10 fields. Returns the first
+   of 4 (under 10 fields), 18 (under 35 bytes), 17, 19, or 0. After 0 the first 10 of `fields` are those of struct
+   vuzgari_record, in its order, sigma by its bits. What is lent beyond is unchanged; after a refusal everything is. */
+uint32_t vuzgari_record_read(const uint8_t *bytes, size_t bytes_len, uint64_t *fields, size_t fields_len);
+
+/* The record of a shot. */
+struct vuzgari_record {
+    uint32_t shot;
+    uint32_t width;
+    uint32_t height;
+    uint32_t answer;   /* the noise call's number: 0, 5, 6 or 7 */
+    float sigma;       /* zero unless that is VUZGARI_GIVEN */
+    uint32_t bands[4]; /* the windows kept in each band of brightness, from dark to bright */
+    uint32_t rail;     /* the windows dropped near black or white */
+};
+
+/* The record in the first 10 fields that the reading call wrote. */
+struct vuzgari_record vuzgari_record_from(const uint64_t *fields);
 
 /* The width of the edges about the centre (cx, cy) of an image of w by h, row by row, in pixels, as the bits of a
    float; or VUZGARI_REFUSED plus the first of 1, 2, 8, 9. Lent are its w * h pixels. (ox, oy) is the image's origin:

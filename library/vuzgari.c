@@ -47,6 +47,12 @@ const char *vuzgari_reason(uint32_t number)
         return "the input is not 4 + width x height bytes long";
     case VUZGARI_MANY_PIXELS:
         return "there are over 4,096 pixels";
+    case VUZGARI_OTHER_MARK:
+        return "the bytes do not begin with a record's mark";
+    case VUZGARI_SHORT_RECORD:
+        return "the slice is shorter than a record";
+    case VUZGARI_BROKEN_RULE:
+        return "a field of the record breaks the rule";
     default:
         return "no such number";
     }
@@ -86,5 +92,19 @@ struct vuzgari_answer vuzgari_answer_from(const uint8_t *bytes)
         .rail = field(bytes, 7),
         .rounds = field(bytes, 8),
         .passes = field(bytes, 9),
+    };
+}
+
+/* Each field of a record fits 32 bits. */
+struct vuzgari_record vuzgari_record_from(const uint64_t *fields)
+{
+    return (struct vuzgari_record){
+        .shot = (uint32_t)fields[0],
+        .width = (uint32_t)fields[1],
+        .height = (uint32_t)fields[2],
+        .answer = (uint32_t)fields[3],
+        .sigma = float_of((uint32_t)fields[4]),
+        .bands = {(uint32_t)fields[5], (uint32_t)fields[6], (uint32_t)fields[7], (uint32_t)fields[8]},
+        .rail = (uint32_t)fields[9],
     };
 }

@@ -62,6 +62,35 @@ static void high_bytes(void)
     hold(answer.sigma != answer.sigma, "sigma of hex FF is no NaN");
 }
 
+/* No two fields have a byte in common. */
+static void record_fields(void)
+{
+    uint64_t fields[VUZGARI_RECORD_FIELDS];
+    for (size_t k = 0; k < VUZGARI_RECORD_FIELDS; k++) {
+        fields[k] = 0x04030201 + 0x04040404 * k;
+    }
+    struct vuzgari_record record = vuzgari_record_from(fields);
+    hold(record.shot == 0x04030201, "shot of a record");
+    hold(record.width == 0x08070605, "width of a record");
+    hold(record.height == 0x0C0B0A09, "height of a record");
+    hold(record.answer == 0x100F0E0D, "answer of a record");
+    hold(bits_of(record.sigma) == 0x14131211, "sigma of a record");
+    hold(record.bands[0] == 0x18171615, "band 0 of a record");
+    hold(record.bands[1] == 0x1C1B1A19, "band 1 of a record");
+    hold(record.bands[2] == 0x201F1E1D, "band 2 of a record");
+    hold(record.bands[3] == 0x24232221, "band 3 of a record");
+    hold(record.rail == 0x28272625, "rail of a record");
+}
+
+/* The largest that a field holds. */
+static void high_fields(void)
+{
+    uint64_t fields[VUZGARI_RECORD_FIELDS] = {[0] = UINT32_MAX, [4] = 0x447A0000, [9] = UINT32_MAX};
+    struct vuzgari_record record = vuzgari_record_from(fields);
+    hold(record.shot == UINT32_MAX && record.rail == UINT32_MAX, "fields of 2^32 - 1");
+    hold(record.sigma == 1000.0f, "sigma 1,000");
+}
+
 static void numbers(void)
 {
     hold(vuzgari_number_of(0) == VUZGARI_GIVEN, "the number of the figure 0");
@@ -86,6 +115,8 @@ int main(void)
 {
     distinct_bytes();
     high_bytes();
+    record_fields();
+    high_fields();
     numbers();
     widths();
     hold(strcmp(vuzgari_version(), VUZGARI_VERSION) == 0, "the archive has another version than the header");

@@ -1,114 +1,18 @@
 /* guard after|before LIDS EDGES: makes the C calls on slices that each end at an unreadable page, or each begin right
    after one, and holds what they answer to the lists and what they leave to document 01. Pixels are lent read-only, and
-   to a call that is to be refused everything is. An access outside ends the program with the call's name. */
-#define _DEFAULT_SOURCE
-
+   to a call that is to be refused everything is. An access outside ends the program with the call's name. rooms.c has the
+   slices, records.c the record calls. */
 #include "images/image.h"
+#include "records.h"
+#include "rooms.h"
 #include "vuzgari.h"
 
 #include <inttypes.h>
-#include <signal.h>
 #include <stdlib.h>
 #include <string.h>
-#include <sys/mman.h>
-#include <unistd.h>
 
 /* Ten fields of 4 bytes with nothing between: answers whose bytes are equal have equal fields, sigma's bits too. */
 _Static_assert(sizeof(struct vuzgari_answer) == VUZGARI_ANSWER_BYTES, "the answer has no other bytes than its fields");
-
-static enum { AFTER, BEFORE } guarded; /* where the unreadable page is */
-static char doing[128];                /* the call under way */
-static unsigned long calls;
-
-static _Noreturn void fail(const char *why)
-{
-    printf("guard: %s: %s\n", doing, why);
-    exit(1);
-}
-
-static void hold(bool held, const char *why)
-{
-    if (!held) {
-        fail(why);
-    }
-}
-
-static void on_fault(int number)
-{
-    (void)number;
-    static const char why[] = ": memory outside the lent slices, or lent read-only\n";
-    bool told = write(STDERR_FILENO, doing, strlen(doing)) > 0 && write(STDERR_FILENO, why, sizeof why - 1) > 0;
-    _exit(told ? 3 : 4);
-}
-
-static void begin(const char *name, const char *what)
-{
-    snprintf(doing, sizeof doing, "%s, %s", name, what);
-}
-
-/* Memory of some bytes, with an unreadable page on both sides; one of them is next to it. */
-struct room {
-    uint8_t *map, *at;
-    size_t map_bytes, bytes;
-};
-
-static size_t page_bytes(void)
-{
-    return (size_t)sysconf(_SC_PAGESIZE);
-}
-
-static size_t whole_pages(size_t bytes)
-{
-    return (bytes + page_bytes() - 1) / page_bytes() * page_bytes();
-}
-
-static struct room open_room(size_t bytes)
-{
-    size_t inner = whole_pages(bytes);
-    struct room room = {.map_bytes = inner + 2 * page_bytes(), .bytes = bytes};
-    void *map = mmap(NULL, room.map_bytes, PROT_NONE, MAP_PRIVATE | MAP_ANONYMOUS, -1, 0);
-    hold(map != MAP_FAILED, "no memory");
-    room.map = map;
-    room.at = room.map + page_bytes() + (guarded == AFTER ? inner - bytes : 0);
-    hold(inner == 0 || mprotect(room.map + page_bytes(), inner, PROT_READ | PROT_WRITE) == 0, "mprotect");
-    return room;
-}
-
-static void make_read_only(const struct room *room)
-{
-    size_t inner = room->map_bytes - 2 * page_bytes();
-    hold(inner == 0 || mprotect(room->map + page_bytes(), inner, PROT_READ) == 0, "mprotect");
-}
-
-static void close_room(struct room *room)
-{
-    munmap(room->map, room->map_bytes);
-}
-
-/* What stands at place k before a call: never 0. */
-static uint8_t mark(size_t k)
-{
-    return (uint8_t)(1 + k % 255);
-}
-
-static struct room open_marked(size_t bytes)
-{
-    struct room room = open_room(bytes);
-    for (size_t k = 0; k < bytes; k++) {
-        room.at[k] = mark(k);
-    }
-    return room;
-}
-
-static bool marked_from(const struct room *room, size_t first)
-{
-    for (size_t k = first; k < room->bytes; k++) {
-        if (room->at[k] != mark(k)) {
-            return false;
-        }
-    }
-    return true;
-}
 
 static bool zero_up_to(const struct room *room, size_t end)
 {
@@ -195,6 +99,8 @@ static void measured(const struct image *image, const char *what, struct lent le
     hold(marked_from(&work.answer, VUZGARI_ANSWER_BYTES), "answer bytes beyond changed");
     hold(zero_up_to(&work.ints, ints) && zero_up_to(&work.floats, floats), "work memory not cleared");
     hold(marked_from(&work.ints, ints) && marked_from(&work.floats, floats), "work memory beyond changed");
+    make_read_only(&work.answer);
+    measured_record(image, &work.answer, stored);
     close_work(&work);
 }
 
@@ -335,10 +241,9 @@ int main(int argc, char **argv)
         fprintf(stderr, "usage: guard after|before LIDS EDGES\n");
         return 2;
     }
-    guarded = strcmp(argv[1], "after") == 0 ? AFTER : BEFORE;
-    signal(SIGSEGV, on_fault);
-    signal(SIGBUS, on_fault);
+    guard_rooms(strcmp(argv[1], "after") == 0);
     nulls();
+    records();
     each(argv[2], lid);
     each(argv[3], edge);
     printf("guard: %lu calls, unreadable pages %s the slices\n", calls, argv[1]);

@@ -31,6 +31,9 @@ sentences =
     ∷ (14, "there is no knot, there are over 16, or their widths do not rise strictly")
     ∷ (15, "the input is not 4 + width x height bytes long")
     ∷ (16, "there are over 4,096 pixels")
+    ∷ (17, "the bytes do not begin with a record's mark")
+    ∷ (18, "the slice is shorter than a record")
+    ∷ (19, "a field of the record breaks the rule")
     ∷ []
 
 -- the sentence beside a number; of a number that has none, that it is none

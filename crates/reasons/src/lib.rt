@@ -8,7 +8,7 @@ ghost use Rattle.reasons.specs.Reasons.{reasonBytes, reasonOf, numberedB
 ghost use Rattle.reasons.specs.Parts.{textOf, startsOf};
 
 // The sentences of the numbers from 0 up, one after the other.
-const SENTENCES: [u8; 826] = *b"\
+const SENTENCES: [u8; 940] = *b"\
     there is a figure\
     a side is above 16,384\
     the pixel slice is not width x height long\
@@ -25,10 +25,13 @@ const SENTENCES: [u8; 826] = *b"\
     a covariance or a model has a component that is not finite\
     there is no knot, there are over 16, or their widths do not rise strictly\
     the input is not 4 + width x height bytes long\
-    there are over 4,096 pixels";
+    there are over 4,096 pixels\
+    the bytes do not begin with a record's mark\
+    the slice is shorter than a record\
+    a field of the record breaks the rule";
 
 // Where each begins, and after the last its end.
-const STARTS: [usize; 18] = [
+const STARTS: [usize; 21] = [
     0,
     17,
     39,
@@ -47,6 +50,9 @@ const STARTS: [usize; 18] = [
     753,
     799,
     826,
+    869,
+    903,
+    940,
 ];
 
 // Lays a number's sentence, a part of such a text, over what stands from place `at` on, and answers where it ends.
