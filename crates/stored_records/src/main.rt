@@ -1,5 +1,7 @@
 // Replays stored calls that write and read records: a list on standard input, what each call answers and leaves on standard output.
 // `oracle/compare --store records` makes both anew.
+ghost use mathlib.Core.Path.{_≡_};
+ghost use lib.ListN.{length};
 use libc::STDIN_FILENO;
 use libc::STDOUT_FILENO;
 
@@ -15,12 +17,16 @@ fn byte(text: &[u8], i: usize, k: usize) -> u8 {
     ((n >> (56 - k % 8 * 8)) % 256) as u8
 }
 
-fn bytes_in(text: &[u8], i: usize, bytes: &mut [u8; 40]) {
+fn bytes_in(text: &[u8], i: usize) -> [u8; 40]
+    ensures { λ r. ⌜ length r ≡ 40 ⌝ }
+{
+    let mut bytes = [0; 40];
     let mut k = 0;
     while k < 40 {
         bytes[k] = byte(text, i, k);
         k += 1;
     }
+    bytes
 }
 
 fn report_bytes(bytes: &[u8; 40]) {
@@ -42,9 +48,9 @@ fn report_fields(fields: &[u64; 12]) {
 }
 
 // Writes from the first n bytes of an answer into the first m of 40.
-fn write(answer: &[u8; 40], n: usize, m: usize, shot: u32, w: usize, h: usize) {
+fn write(answer: &[u8], n: usize, m: usize, shot: u32, w: usize, h: usize) {
     let mut out = [0xee; 40];
-    if n > 40 {
+    if n > answer.len() {
         return;
     }
     if m > 40 {
@@ -56,9 +62,9 @@ fn write(answer: &[u8; 40], n: usize, m: usize, shot: u32, w: usize, h: usize) {
 }
 
 // Reads from the first n of the bytes into the first m of 12 fields.
-fn read(bytes: &[u8; 40], n: usize, m: usize) {
+fn read(bytes: &[u8], n: usize, m: usize) {
     let mut fields = [999; 12];
-    if n > 40 {
+    if n > bytes.len() {
         return;
     }
     if m > 12 {
@@ -77,8 +83,7 @@ fn call(text: &[u8], i: usize) {
     let h = stored::number(text, COLUMNS, i, 2) as usize;
     let n = stored::number(text, COLUMNS, i, 3) as usize;
     let m = stored::number(text, COLUMNS, i, 4) as usize;
-    let mut bytes = [0; 40];
-    bytes_in(text, i, &mut bytes);
+    let bytes = bytes_in(text, i);
     if letter == b'w' {
         write(&bytes, n, m, shot, w, h);
     } else if letter == b'r' {
