@@ -13,6 +13,7 @@ mod misfit;
 mod model;
 mod noise;
 mod patterns;
+mod records;
 mod rounds;
 mod sample;
 mod stored;
@@ -36,6 +37,7 @@ pub const ALL: &[Topic] = &[
     edge::TOPIC,
     lids::TOPIC,
     twins::TOPIC,
+    records::TOPIC,
     noise::LARGE,
     lids::LARGE,
     patterns::TOPIC,
