@@ -2,14 +2,14 @@
 -- fields fits into four bytes.
 use mathlib.Core.Path.{_≡_, refl, sym, ap, _∙_, subst}
 use mathlib.Core.Bool.{Bool, true, false, cond}
-use mathlib.Core.Logic.{_↔_, _⊎_, inl, inr}
+use mathlib.Core.Logic.{_⊎_, inl, inr}
 use mathlib.Core.List.{List}
-use Prim.Native.Nat.{ℕ, _+_, _^_, _≤_, _<_}
+use Prim.Native.Nat.{ℕ, _^_, _≤_, _<_}
 use native.Mathlib.Omega.{arith}
 use native.Mathlib.Nat.{le-trans}
 use lib.Dec.{eqb}
 use lib.ListN.{length, getD}
-use lib.Ieee.{Float, binary32, toBits, ofBits}
+use lib.Ieee.{binary32, toBits, ofBits}
 use borrow.Author.Tests.{eqb-true}
 use Rattle.laws.proofs.Choice.{cond-both}
 use Rattle.ieee.proofs.Naturals.{le-or-lt}
@@ -27,7 +27,7 @@ use Rattle.noise.proofs.Leaving.{noise-refused, noise-measured}
 use Rattle.noise.proofs.Totals.{windowsIn, totalBy, counts-add}
 use Rattle.noise.proofs.Demand1.{demand1}
 use Rattle.bounds.proofs.Answers.{sigma-is-number}
-use Rattle.record.specs.Rule.{Stored, storedAnswer, Allowed, bandSum, thousandBits}
+use Rattle.record.specs.Rule.{Stored, storedAnswer, Allowed}
 use Rattle.logging.specs.Logging.{recordOfAnswer}
 
 -- ---- the numbers that are stored are those of a call whose passes ran
@@ -64,7 +64,8 @@ zero-bits : toBits binary32 plusZero ≡ 0
 unfolding toBits ofBits
 zero-bits = refl
 
-module _ (img : List ℕ) (bytes : (i : ℕ) → getD img i 0 ≤ 255) (w h : ℕ) (short : Bool) (stored : Stored (noiseOf img w h short .number)) where
+module _ (img : List ℕ) (bytes : (i : ℕ) → getD img i 0 ≤ 255) (w h : ℕ) (short : Bool)
+    (stored : Stored (noiseOf img w h short .number)) where
   abbrev a : Answer
   a = noiseOf img w h short
 
@@ -84,9 +85,12 @@ module _ (img : List ℕ) (bytes : (i : ℕ) → getD img i 0 ≤ 255) (w h : �
   sides = Causes.allowed (length img) w h short not-refused
 
   counted : windowsIn a ≡ totalBy w h (a .passes)
-  counted = subst (λ (x : Answer). windowsIn x ≡ totalBy w h (x .passes)) (sym (noise-measured img w h short not-refused)) (counts-add img w h)
+  counted =
+      subst (λ (x : Answer). windowsIn x ≡ totalBy w h (x .passes)) (sym (noise-measured img w h short not-refused))
+      (counts-add img w h)
 
-  one-of-both : (b : Bool) → (cond b (totalOf w h firstW) (totalOf w h secondW) ≡ totalOf w h firstW) ⊎ (cond b (totalOf w h firstW) (totalOf w h secondW) ≡ totalOf w h secondW)
+  one-of-both : (b : Bool) → (cond b (totalOf w h firstW) (totalOf w h secondW) ≡ totalOf w h firstW)
+      ⊎ (cond b (totalOf w h firstW) (totalOf w h secondW) ≡ totalOf w h secondW)
   one-of-both true = inl refl
   one-of-both false = inr refl
 
@@ -97,14 +101,15 @@ module _ (img : List ℕ) (bytes : (i : ℕ) → getD img i 0 ≤ 255) (w h : �
         answer = stored;
         figure = λ z. (le-trans (sigma-is-number img bytes w h short .bits) (omega arith), demand1 img w h short .figure .0 z .1);
         no-figure = λ n. ap (toBits binary32) (demand1 img w h short .unless n .0) ∙ zero-bits;
-        counts = elim (one-of-both (eqb (a .passes) 1)) [ | inl e ↦ inl (counted ∙ e) | inr e ↦ inr (counted ∙ e) ];
+        counts = elim (one-of-both (eqb (a .passes) 1)) [ inl e ↦ inl (counted ∙ e) | inr e ↦ inr (counted ∙ e) ];
       }
 
   windows-most : windowsIn a ≤ 268435456
   windows-most =
       subst (λ (n : ℕ). n ≤ 268435456) (sym counted)
       (cond-both (λ (n : ℕ). n ≤ 268435456) (eqb (a .passes) 1) (totalOf w h firstW) (totalOf w h secondW)
-      (le-trans (total-most w h firstW (omega arith)) (few w h sides)) (le-trans (total-most w h secondW (omega arith)) (few w h sides)))
+      (le-trans (total-most w h firstW (omega arith)) (few w h sides))
+      (le-trans (total-most w h secondW (omega arith)) (few w h sides)))
 
   -- what is read back from four bytes each
   pub number-fits : a .number < 256 ^ 4
@@ -114,4 +119,6 @@ module _ (img : List ℕ) (bytes : (i : ℕ) → getD img i 0 ≤ 255) (w h : �
   sigma-fits = omega (arith, sigma-is-number img bytes w h short .bits)
 
   pub counts-fit : (a .b0 < 256 ^ 4) × (a .b1 < 256 ^ 4) × (a .b2 < 256 ^ 4) × (a .b3 < 256 ^ 4) × (a .rail < 256 ^ 4)
-  counts-fit = (omega (arith, windows-most), omega (arith, windows-most), omega (arith, windows-most), omega (arith, windows-most), omega (arith, windows-most))
+  counts-fit =
+      let l = windows-most in
+      (omega (arith, l), omega (arith, l), omega (arith, l), omega (arith, l), omega (arith, l))

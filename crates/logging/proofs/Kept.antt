@@ -4,7 +4,7 @@ use mathlib.Core.Bool.{Bool}
 use mathlib.Core.Logic.{_↔_}
 use mathlib.Core.List.{List, _++_}
 use Prim.Native.Nat.{ℕ, _^_, _≤_, _<_}
-use lib.ListN.{length, getD, drop}
+use lib.ListN.{length, getD}
 use lib.Seq.{slice}
 use lib.Ieee.{binary32, toBits}
 use Rattle.little_endian.specs.Bytes.{bytesOf, valueOf}
@@ -13,26 +13,28 @@ use Rattle.answer.specs.declared.Answer.{Answer}
 use Rattle.answer.specs.Fields.{bytesOfWords, answerBytes}
 use Rattle.noise.specs.Call.{noiseOf}
 use Rattle.record.specs.Rule.{Stored, Allowed}
-use Rattle.record.specs.Records.{formNF, sizeOf, bytesAs, writtenAs, readAs}
+use Rattle.record.specs.Records.{formNF, sizeOf, writtenAs, readAs}
 use Rattle.record.specs.declared.Record.{Record}
 use Rattle.record.specs.Demand1.{WriteMeets}
 use Rattle.record.specs.RoundTrip.{Typed}
 use Rattle.record.proofs.Demand1.{write-meets}
 use Rattle.record.proofs.RoundTrip.{read-written}
-use Rattle.logging.specs.Logging.{recordOfAnswer, fieldAt, recordFrom}
+use Rattle.logging.specs.Logging.{recordOfAnswer, recordFrom}
 use Rattle.logging.specs.Kept.{Kept}
 use Rattle.logging.proofs.Answers.{keeps-rule, number-fits, sigma-fits, counts-fit}
 
 -- the bytes of an answer at the places of what a record keeps
 places : (a : Answer) (rest : List ℕ)
-    → (slice 0 4 (answerBytes a ++ rest) ≡ bytesOf 4 (a .number)) × (slice 4 8 (answerBytes a ++ rest) ≡ bytesOf 4 (toBits binary32 (a .sigma)))
+    → (slice 0 4 (answerBytes a ++ rest) ≡ bytesOf 4 (a .number))
+    × (slice 4 8 (answerBytes a ++ rest) ≡ bytesOf 4 (toBits binary32 (a .sigma)))
     × (slice 12 16 (answerBytes a ++ rest) ≡ bytesOf 4 (a .b0)) × (slice 16 20 (answerBytes a ++ rest) ≡ bytesOf 4 (a .b1))
     × (slice 20 24 (answerBytes a ++ rest) ≡ bytesOf 4 (a .b2)) × (slice 24 28 (answerBytes a ++ rest) ≡ bytesOf 4 (a .b3))
     × (slice 28 32 (answerBytes a ++ rest) ≡ bytesOf 4 (a .rail))
 unfolding bytesOfWords bytesOf
 places a rest = (refl, refl, refl, refl, refl, refl, refl)
 
-module _ (img : List ℕ) (bytes : (i : ℕ) → getD img i 0 ≤ 255) (w h : ℕ) (short : Bool) (stored : Stored (noiseOf img w h short .number)) (shot : ℕ) where
+module _ (img : List ℕ) (bytes : (i : ℕ) → getD img i 0 ≤ 255) (w h : ℕ) (short : Bool)
+    (stored : Stored (noiseOf img w h short .number)) (shot : ℕ) where
   abbrev a : Answer
   a = noiseOf img w h short
 
@@ -58,8 +60,11 @@ module _ (img : List ℕ) (bytes : (i : ℕ) → getD img i 0 ≤ 255) (w h : �
       record {
         allowed = rule;
         same = same;
-        taken = λ rest out. subst (λ (r : Record). (writtenAs formNF r out .number ≡ 0) ↔ (sizeOf formNF ≤ length out)) (sym (same rest)) (taken out);
-        changes = λ rest out l. ap (λ (r : Record). writtenAs formNF r out .bytes) (same rest) ∙ writes out .changes (writes out .taken .1 (rule, l));
+        taken = λ rest out.
+            subst (λ (r : Record). (writtenAs formNF r out .number ≡ 0) ↔ (sizeOf formNF ≤ length out)) (sym (same rest))
+            (taken out);
+        changes = λ rest out l.
+            ap (λ (r : Record). writtenAs formNF r out .bytes) (same rest) ∙ writes out .changes (writes out .taken .1 (rule, l));
         reads = λ rest out n l.
             ap (λ (r : Record). readAs formNF (writtenAs formNF r out .bytes)) (same rest)
             ∙ read-written (recordOfAnswer shot w h a) out (typed n) (writes out .taken .1 (rule, l));
@@ -81,7 +86,8 @@ module _ (img : List ℕ) (bytes : (i : ℕ) → getD img i 0 ≤ 255) (w h : �
             rail = f .4;
           }
 
-      writes : (out : List ℕ) → WriteMeets formNF (recordOfAnswer shot w h a) out (writtenAs formNF (recordOfAnswer shot w h a) out)
+      writes : (out : List ℕ)
+          → WriteMeets formNF (recordOfAnswer shot w h a) out (writtenAs formNF (recordOfAnswer shot w h a) out)
       writes out = write-meets formNF (recordOfAnswer shot w h a) out
 
       taken : (out : List ℕ) → (writtenAs formNF (recordOfAnswer shot w h a) out .number ≡ 0) ↔ (sizeOf formNF ≤ length out)

@@ -18,10 +18,13 @@ pub record Kept (shot w h : ℕ) (a : Answer) : Type 0 where
   -- the answer's 40 bytes give the same record, whatever stands beyond them
   pub same : (rest : List ℕ) → recordFrom shot w h (answerBytes a ++ rest) ≡ recordOfAnswer shot w h a
   -- the writer takes it wherever 35 bytes are lent
-  pub taken : (rest out : List ℕ) → (writtenAs formNF (recordFrom shot w h (answerBytes a ++ rest)) out .number ≡ 0) ↔ (sizeOf formNF ≤ length out)
+  pub taken : (rest out : List ℕ)
+      → (writtenAs formNF (recordFrom shot w h (answerBytes a ++ rest)) out .number ≡ 0) ↔ (sizeOf formNF ≤ length out)
   -- and then the answer's record stands in front of those bytes that were beyond
   pub changes : (rest out : List ℕ) → sizeOf formNF ≤ length out
-      → writtenAs formNF (recordFrom shot w h (answerBytes a ++ rest)) out .bytes ≡ bytesAs formNF (recordOfAnswer shot w h a) ++ drop (sizeOf formNF) out
+      → writtenAs formNF (recordFrom shot w h (answerBytes a ++ rest)) out .bytes
+      ≡ bytesAs formNF (recordOfAnswer shot w h a) ++ drop (sizeOf formNF) out
   -- which reads back as the answer's record, a shot being a number of 32 bits
   pub reads : (rest out : List ℕ) → shot < 2 ^ 32 → sizeOf formNF ≤ length out
-      → readAs formNF (writtenAs formNF (recordFrom shot w h (answerBytes a ++ rest)) out .bytes) ≡ Given (recordOfAnswer shot w h a)
+      → readAs formNF (writtenAs formNF (recordFrom shot w h (answerBytes a ++ rest)) out .bytes)
+      ≡ Given (recordOfAnswer shot w h a)

@@ -1,6 +1,6 @@
 // From the noise call's answer to the record of a shot.
 ghost use mathlib.Core.Path.{_≡_};
-ghost use Prim.Native.Nat.{_+_, _*_, _≤_, _<_};
+ghost use Prim.Native.Nat.{_≤_, _<_};
 ghost use lib.ListN.{length};
 ghost use Rattle.logging.specs.Logging.{fieldAt, recordFrom};
 use record::Record;

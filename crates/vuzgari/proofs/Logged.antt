@@ -1,8 +1,7 @@
 -- What the noise call answers with 0, 5, 6 or 7 goes into the log: it leaves the answer's 40 bytes in front, and those are kept.
 -- Assumes that pixels are 0 to 255.
-use mathlib.Core.Path.{_≡_, refl, sym, ap, _∙_}
+use mathlib.Core.Path.{_≡_, sym, ap, _∙_}
 use mathlib.Core.Bool.{Bool, cond}
-use mathlib.Core.Logic.{_↔_}
 use mathlib.Core.List.{List, _++_}
 use Prim.Native.Nat.{ℕ, _≤_}
 use native.Mathlib.Omega.{arith}
@@ -20,7 +19,7 @@ use Rattle.logging.specs.Kept.{Kept}
 use Rattle.logging.proofs.Answers.{ran-of}
 use Rattle.logging.proofs.Kept.{kept}
 use Rattle.vuzgari.specs.Noise.{shortFor, noiseFor, leftBytes}
-use Rattle.vuzgari.specs.Records.{writtenFor, shownIn, readFor}
+use Rattle.vuzgari.specs.Records.{writtenFor, shownIn}
 use Rattle.vuzgari.specs.Logged.{Logged}
 use Rattle.vuzgari.proofs.Recording.{from-40, from-10}
 
@@ -32,15 +31,18 @@ module _ (shot w h : ℕ) (a : Answer) (before : List ℕ) (k : Kept shot w h a)
   left : leftBytes before a ≡ answerBytes a ++ rest
   left = ap (λ (b : Bool). cond b (answerBytes a ++ rest) before) (ran-of (a .number) stored)
 
-  writes : (out : List ℕ) → writtenFor shot w h (leftBytes before a) out ≡ writtenAs formNF (recordFrom shot w h (answerBytes a ++ rest)) out
+  writes : (out : List ℕ) → writtenFor shot w h (leftBytes before a) out
+      ≡ writtenAs formNF (recordFrom shot w h (answerBytes a ++ rest)) out
   writes out =
       ap (λ (l : List ℕ). writtenFor shot w h l out) left
       ∙ from-40 shot w h (answerBytes a ++ rest) out (omega (arith, length-append (answerBytes a) rest, forty a))
 
-  number : (out : List ℕ) → writtenFor shot w h (leftBytes before a) out .number ≡ writtenAs formNF (recordFrom shot w h (answerBytes a ++ rest)) out .number
+  number : (out : List ℕ) → writtenFor shot w h (leftBytes before a) out .number
+      ≡ writtenAs formNF (recordFrom shot w h (answerBytes a ++ rest)) out .number
   number out = ap (λ (x : Written). x .number) (writes out)
 
-  bytes-left : (out : List ℕ) → writtenFor shot w h (leftBytes before a) out .bytes ≡ writtenAs formNF (recordFrom shot w h (answerBytes a ++ rest)) out .bytes
+  bytes-left : (out : List ℕ) → writtenFor shot w h (leftBytes before a) out .bytes
+      ≡ writtenAs formNF (recordFrom shot w h (answerBytes a ++ rest)) out .bytes
   bytes-left out = ap (λ (x : Written). x .bytes) (writes out)
 
   by-kept : Logged shot w h a before
@@ -50,11 +52,13 @@ module _ (shot w h : ℕ) (a : Answer) (before : List ℕ) (k : Kept shot w h a)
         changes = λ out l. bytes-left out ∙ k .changes rest out l;
         reads = λ out fields n l m.
             from-10 (writtenFor shot w h (leftBytes before a) out .bytes) fields m
-            ∙ ap (λ (x : Reading). shownIn fields x) (ap (λ (y : List ℕ). readAs formNF y) (bytes-left out) ∙ k .reads rest out n l);
+            ∙ ap (λ (x : Reading). shownIn fields x)
+            (ap (λ (y : List ℕ). readAs formNF y) (bytes-left out) ∙ k .reads rest out n l);
       }
 
 -- the noise call from C, whatever it is lent
-pub logged : (pixels : List ℕ) → ((i : ℕ) → getD pixels i 0 ≤ 255) → (w h : ℕ) (ints : List ℤ) (floats : List Float) (before : List ℕ) (shot : ℕ)
+pub logged : (pixels : List ℕ) → ((i : ℕ) → getD pixels i 0 ≤ 255) → (w h : ℕ) (ints : List ℤ) (floats : List Float)
+    (before : List ℕ) (shot : ℕ)
     → Stored (noiseFor pixels w h ints floats before .number) → Logged shot w h (noiseFor pixels w h ints floats before) before
 logged pixels bytes w h ints floats before shot stored =
     by-kept shot w h (noiseFor pixels w h ints floats before) before

@@ -1,19 +1,19 @@
 -- Demand 1 at the record calls from C: 4 is judged first, and all else is the record's own demand 1. Assumes nothing.
-use mathlib.Core.Path.{_≡_, refl, sym, ap, _∙_, subst}
-use mathlib.Core.Logic.{_↔_, _⊎_, inl, inr}
-use mathlib.Core.List.{List, _++_}
+use mathlib.Core.Path.{_≡_, refl, sym, ap, subst}
+use mathlib.Core.Logic.{_⊎_, inl, inr}
+use mathlib.Core.List.{List}
 use Prim.Native.Nat.{ℕ, _≤_, _<_}
 use native.Mathlib.Omega.{arith}
-use lib.ListN.{length, drop}
+use lib.ListN.{length}
 use Rattle.ieee.proofs.Naturals.{le-or-lt}
 use Rattle.record.specs.declared.Record.{Record}
 use Rattle.record.specs.declared.Reading.{Reading}
 use Rattle.record.specs.declared.Reading.the-variants.{Given, Refused}
-use Rattle.record.specs.Records.{formNF, fieldsOf, Written, writtenAs, recordIn, readAs}
+use Rattle.record.specs.Records.{formNF, Written, writtenAs, recordIn, readAs}
 use Rattle.record.specs.Demand1.{WriteMeets, ReadMeets}
 use Rattle.record.proofs.Demand1.{write-meets, read-meets}
 use Rattle.logging.specs.Logging.{recordFrom}
-use Rattle.vuzgari.specs.Records.{writtenFor, Shown, shownIn, readFor}
+use Rattle.vuzgari.specs.Records.{Shown, shownIn}
 use Rattle.vuzgari.specs.Demand1.{WriteAtC, ReadAtC, WriteMeetsAtC, ReadMeetsAtC}
 use Rattle.vuzgari.proofs.Recording.{under-40, from-40, under-10, from-10}
 
@@ -32,7 +32,8 @@ module _ (shot w h : ℕ) (answer out : List ℕ) where
         changes = λ e. absurd (omega arith);
       }
 
-  by-writer : 40 ≤ length answer → (x : Written) → WriteMeets formNF (recordFrom shot w h answer) out x → WriteAtC shot w h answer out x
+  by-writer : 40 ≤ length answer → (x : Written) → WriteMeets formNF (recordFrom shot w h answer) out x
+      → WriteAtC shot w h answer out x
   by-writer l x m =
       record {
         only = all (m .only);
@@ -44,7 +45,8 @@ module _ (shot w h : ℕ) (answer out : List ℕ) where
         changes = m .changes;
       }
     where
-      all : (x .number ≡ 0) ⊎ (x .number ≡ 18) ⊎ (x .number ≡ 19) → (x .number ≡ 0) ⊎ (x .number ≡ 4) ⊎ (x .number ≡ 18) ⊎ (x .number ≡ 19)
+      all : (x .number ≡ 0) ⊎ (x .number ≡ 18) ⊎ (x .number ≡ 19)
+          → (x .number ≡ 0) ⊎ (x .number ≡ 4) ⊎ (x .number ≡ 18) ⊎ (x .number ≡ 19)
       all (inl e) = inl e
       all (inr e) = inr (inr e)
 
@@ -90,8 +92,8 @@ module _ (bytes fields : List ℕ) where
     numbers e = ap (λ (s : Shown). s .number) (shows e)
 
     -- one of four
-    by-case : {Q : Type 0} → (number ≡ 0 → x ≡ Given found → Q) → (number ≡ 17 → x ≡ Refused 17 → Q) → (number ≡ 18 → x ≡ Refused 18 → Q)
-        → (number ≡ 19 → x ≡ Refused 19 → Q) → Q
+    by-case : {Q : Type 0} → (number ≡ 0 → x ≡ Given found → Q) → (number ≡ 17 → x ≡ Refused 17 → Q)
+        → (number ≡ 18 → x ≡ Refused 18 → Q) → (number ≡ 19 → x ≡ Refused 19 → Q) → Q
     by-case {Q} a b c d = go (m .only)
       where
         go : (x ≡ Given found) ⊎ (x ≡ Refused 17) ⊎ (x ≡ Refused 18) ⊎ (x ≡ Refused 19) → Q
@@ -118,14 +120,18 @@ module _ (bytes fields : List ℕ) where
     by-reader : ReadAtC bytes fields (shownIn fields x)
     by-reader =
         record {
-          only = by-case (λ n _. inl n) (λ n _. inr (inr (inl n))) (λ n _. inr (inr (inr (inl n)))) (λ n _. inr (inr (inr (inr n))));
+          only = by-case (λ n _. inl n) (λ n _. inr (inr (inl n)))
+              (λ n _. inr (inr (inr (inl n)))) (λ n _. inr (inr (inr (inr n))));
           four = (
             λ z. absurd (by-case {Q = ⊥} (λ n _. omega arith) (λ n _. omega arith) (λ n _. omega arith) (λ n _. omega arith)),
             λ p. absurd (omega arith),
           );
           short = (λ z. (l, m .short .0 (is-18 z)), λ p. numbers (m .short .1 (p .1)));
           mark = (λ z. let p = m .mark .0 (is-17 z) in (l, p .0, p .1), λ p. numbers (m .mark .1 (p .1, p .2)));
-          broken = (λ z. let p = m .broken .0 (is-19 z) in (l, p .0, p .1, p .2), λ p. numbers (m .broken .1 (p .1, p .2, p .3)));
+          broken = (
+            λ z. let p = m .broken .0 (is-19 z) in (l, p .0, p .1, p .2),
+            λ p. numbers (m .broken .1 (p .1, p .2, p .3)),
+          );
           given = (
             λ z. let p = m .given found .0 (is-given z) in (l, p .0, p .1, p .2),
             λ p. numbers (m .given found .1 (p .1, p .2, p .3, refl)),
@@ -136,6 +142,7 @@ module _ (bytes fields : List ℕ) where
 
   pub read-meets-at-c : ReadMeetsAtC bytes fields
   read-meets-at-c = elim (le-or-lt 10 (length fields)) [
-    | inl l ↦ subst (ReadAtC bytes fields) (sym (from-10 bytes fields l)) (by-reader l (readAs formNF bytes) (read-meets formNF bytes))
+    | inl l ↦ subst (ReadAtC bytes fields) (sym (from-10 bytes fields l))
+        (by-reader l (readAs formNF bytes) (read-meets formNF bytes))
     | inr l ↦ subst (ReadAtC bytes fields) (sym (under-10 bytes fields l)) (few-fields l)
   ]

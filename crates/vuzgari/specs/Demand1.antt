@@ -60,7 +60,8 @@ pub record ReadAtC (bytes fields : List ℕ) (x : Shown) : Type 0 where
   pub mark : (x .number ≡ 17) ↔ ((10 ≤ length fields) × (35 ≤ length bytes) × (Marked formNF bytes → ⊥))
   pub broken : (x .number ≡ 19)
       ↔ ((10 ≤ length fields) × (35 ≤ length bytes) × Marked formNF bytes × (Allowed (recordIn formNF bytes) → ⊥))
-  pub given : (x .number ≡ 0) ↔ ((10 ≤ length fields) × (35 ≤ length bytes) × Marked formNF bytes × Allowed (recordIn formNF bytes))
+  pub given : (x .number ≡ 0)
+      ↔ ((10 ≤ length fields) × (35 ≤ length bytes) × Marked formNF bytes × Allowed (recordIn formNF bytes))
   -- a refused call changes no field
   pub stays : (x .number ≡ 0 → ⊥) → x .fields ≡ fields
   -- else the record's ten fields stand in front of those that were beyond

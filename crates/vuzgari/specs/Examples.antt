@@ -40,12 +40,12 @@ bytes-kept = refl
 
 -- ---- records
 
--- the answer slice of a 4 by 4 image, whose one window is in the first band: number 5 in two bytes, then milli 99, rounds 98 and
--- passes 97, which no record keeps, and one byte beyond
+-- the answer slice of a 4 by 4 image, whose one window is in the first band: the number by its two low bytes; milli 99, rounds 98
+-- and passes 97, which no record keeps; and one byte beyond
 abbrev oneWindow : ℕ → ℕ → List ℕ
 oneWindow low high =
-    low ∷ high ∷ 0 ∷ 0 ∷ 0 ∷ 0 ∷ 0 ∷ 0 ∷ 99 ∷ 0 ∷ 0 ∷ 0 ∷ 1 ∷ 0 ∷ 0 ∷ 0 ∷ 0 ∷ 0 ∷ 0 ∷ 0 ∷ 0 ∷ 0 ∷ 0 ∷ 0 ∷ 0 ∷ 0 ∷ 0 ∷ 0 ∷ 0 ∷ 0 ∷ 0
-    ∷ 0 ∷ 98 ∷ 0 ∷ 0 ∷ 0 ∷ 97 ∷ 0 ∷ 0 ∷ 0 ∷ 9 ∷ []
+    low ∷ high ∷ 0 ∷ 0 ∷ 0 ∷ 0 ∷ 0 ∷ 0 ∷ 99 ∷ 0 ∷ 0 ∷ 0 ∷ 1 ∷ 0 ∷ 0 ∷ 0 ∷ 0 ∷ 0 ∷ 0 ∷ 0 ∷ 0 ∷ 0 ∷ 0 ∷ 0 ∷ 0 ∷ 0 ∷ 0 ∷ 0 ∷ 0
+    ∷ 0 ∷ 0 ∷ 0 ∷ 98 ∷ 0 ∷ 0 ∷ 0 ∷ 97 ∷ 0 ∷ 0 ∷ 0 ∷ 9 ∷ []
 
 -- its record for shot 7
 abbrev logBytes : List ℕ
@@ -68,7 +68,8 @@ unfolding writtenFor writtenAs valueOf allowed storedAnswer sigmaTaken countsTak
 write-order = (refl, refl, refl)
 
 -- two fields beyond stay
-pub record-read : readFor logBytes (replicate 12 8) ≡ record { number = 0; fields = 7 ∷ 4 ∷ 4 ∷ 5 ∷ 0 ∷ 1 ∷ 0 ∷ 0 ∷ 0 ∷ 0 ∷ 8 ∷ 8 ∷ [] }
+pub record-read : readFor logBytes (replicate 12 8)
+    ≡ record { number = 0; fields = 7 ∷ 4 ∷ 4 ∷ 5 ∷ 0 ∷ 1 ∷ 0 ∷ 0 ∷ 0 ∷ 0 ∷ 8 ∷ 8 ∷ [] }
 unfolding readFor readAs numbersIn valueOf allowed storedAnswer sigmaTaken countsTaken placesOf stepOf
 record-read = refl
 

@@ -26,4 +26,5 @@ shownIn fields (Refused n) = record { number = n; fields = fields }
 
 -- 4 where under ten fields are lent; else what the bytes hold
 unfoldable pub readFor : List ℕ → List ℕ → Shown
-readFor bytes fields = cond (ltb (length fields) 10) (record { number = 4; fields = fields }) (shownIn fields (readAs formNF bytes))
+readFor bytes fields =
+    cond (ltb (length fields) 10) (record { number = 4; fields = fields }) (shownIn fields (readAs formNF bytes))

@@ -46,7 +46,8 @@ same-length c = c .before .loop .inv .long
 returns : tie.Need-returns Inv-loop μ-loop
 returns c =
     let s = c .before .before in
-    front-end (c .before .loop .inv) (c .loop-test .left) ∙ ap (λ (l : List ℕ). l ++ drop 10 (now (s .args .fields))) (all-ten (s .args .t2) (s .good .1 .0 .1 .0 .1))
+    front-end (c .before .loop .inv) (c .loop-test .left)
+    ∙ ap (λ (l : List ℕ). l ++ drop 10 (now (s .args .fields))) (all-ten (s .args .t2) (s .good .1 .0 .1 .0 .1))
 
 pub put-fields-spec : {M : Type 1} → statement M
 put-fields-spec =
