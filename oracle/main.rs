@@ -6,9 +6,9 @@
 //! Without --scale each kind of call is run on as many inputs as its topic sets for the gate, or on N, and the stored answers are
 //! held to what --store would write. At scale smaller turns, each with inputs of its own, follow one another until the time is
 //! over; fixed lists are cut into SLICES slices, one to a turn. The first turn is always whole. The same seed gives the same
-//! inputs; --turn T begins at turn T. Progress goes to standard error, the counts of what was compared come at the end. The first
-//! difference ends the run with status 1: its sides and counts are halved while it still differs, and it is printed as a call,
-//! with floats as hexadecimal patterns.
+//! inputs; --turn T begins at turn T. Progress goes to standard error, the counts of what was compared come at the end; a run that
+//! compares nothing of a topic ends with status 1. So does the first difference: its sides and counts are halved while it still
+//! differs, and it is printed as a call, with floats as hexadecimal patterns.
 
 mod images;
 mod random;
@@ -18,7 +18,7 @@ mod value;
 
 use random::Random;
 use std::{
-    collections::BTreeMap,
+    collections::{BTreeMap, BTreeSet},
     fs,
     process::exit,
     time::{Duration, Instant},
@@ -77,6 +77,8 @@ pub struct Run {
     compared: u64,
     /// What was compared, or counted apart, and how often.
     counts: BTreeMap<String, u64>,
+    /// The topics of which something was compared.
+    busy: BTreeSet<&'static str>,
 }
 
 impl Run {
@@ -135,6 +137,9 @@ impl Run {
         }
         self.progress(what, n);
         self.compared += n;
+        if n > 0 {
+            self.busy.insert(self.topic);
+        }
         self.count(what, n);
     }
 
@@ -262,9 +267,14 @@ fn main() {
         eprintln!("compare: seed {seed}, {s} s, from turn {turn}");
     }
     let now = Instant::now();
-    let mut run = Run { limit, seed, turn, topic: "", place: [0; 2], began: now, told: now, compared: 0, counts: BTreeMap::new() };
+    let (counts, busy) = (BTreeMap::new(), BTreeSet::new());
+    let mut run = Run { limit, seed, turn, topic: "", place: [0; 2], began: now, told: now, compared: 0, counts, busy };
     run.turns(&chosen);
     run.tell_counts();
+    if let Some(idle) = chosen.iter().find(|topic| !run.busy.contains(topic.name)) {
+        println!("compare: nothing was compared of {}", idle.name);
+        exit(1);
+    }
     let (turns, compared) = (run.turn + 1 - turn, run.compared);
     println!("compare: no difference, seed {seed}, {turns} turns, {compared} inputs, {:.1} s", now.elapsed().as_secs_f64());
 }
