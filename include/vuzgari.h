@@ -22,7 +22,7 @@ extern "C" {
 #endif
 
 /* The version of this header; the archive has its own, vuzgari_version(). 0.n promises nothing to programs built with
-   another n: a change of a call raises it. */
+   another n: a call that changes or comes raises it. */
 #define VUZGARI_VERSION "0.2"
 
 const char *vuzgari_version(void);
@@ -101,7 +101,8 @@ struct vuzgari_answer vuzgari_answer_from(const uint8_t *bytes);
    at least 35 bytes for the record. Returns the first of 4 (a short answer), 19, 18 (a short `out`), or 0. After 0 the
    first 35 bytes of `out` are the record: hex 4E 46, then, low byte first, the fields of struct vuzgari_record in its
    order, 4 bytes each, but 2 for width and height and 1 for the answer. What is lent beyond is unchanged; after a
-   refusal everything is.
+   refusal everything is. Call it only where the noise call returned 0, 5, 6 or 7: after 1 to 4 that call has left
+   `answer` as it was, perhaps with another shot's answer in it.
 
    The rule: sides are 4 to 16,384. The answer is 0, 5, 6 or 7. With 0, sigma is 0 to 1,000 without a minus sign, and at
    least 512 windows are kept; with the others its bits are zero. The windows kept and dropped are, together, those of
