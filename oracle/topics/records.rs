@@ -2,7 +2,7 @@
 //! walk over document 01's grid, the orders, and what is left in every lent slice and past it.
 
 use super::{noise, random::specials32, random::Random, stored::Lines, Image, Run, Stored, Topic, Value};
-use std::{array, cell::RefCell, collections::BTreeMap, collections::HashMap, iter::repeat_with};
+use std::{array, cell::RefCell, collections::{BTreeMap, BTreeSet, HashMap}, iter::repeat_with};
 
 pub const TOPIC: Topic = Topic { name: "records", gate: true, compare, store: Some(store), speed: None };
 
@@ -106,8 +106,8 @@ impl Record {
     fn bytes(&self) -> [u8; BYTES] {
         let [w, h] = self.sides.map(|side| (side as u16).to_le_bytes());
         let counts = [self.bands[0], self.bands[1], self.bands[2], self.bands[3], self.rail].map(u32::to_le_bytes);
-        let parts = [&MARK[..], &self.shot.to_le_bytes(), &w, &h, &[self.answer as u8], &self.sigma.to_le_bytes(), counts.as_flattened()];
-        parts.concat().try_into().expect("35 bytes")
+        let [shot, sigma] = [self.shot, self.sigma].map(u32::to_le_bytes);
+        [&MARK[..], &shot, &w, &h, &[self.answer as u8], &sigma, counts.as_flattened()].concat().try_into().expect("35 bytes")
     }
 
     fn from(bytes: [u8; BYTES]) -> Self {
@@ -128,7 +128,7 @@ impl Record {
     }
 
     fn of_fields(fields: &[u64]) -> Self {
-        let [shot, answer, sigma, b0, b1, b2, b3, rail] = [0, 3, 4, 5, 6, 7, 8, 9].map(|k| fields[k] as u32);
+        let [shot, answer, sigma, b0, b1, b2, b3, rail] = [0, 3, 4, 5, 6, 7, 8, 9].map(|k| fields[k].try_into().unwrap_or(u32::MAX));
         Record { shot, sides: [fields[1], fields[2]], answer, sigma, bands: [b0, b1, b2, b3], rail }
     }
 
@@ -200,19 +200,17 @@ struct Write {
     out: Bytes,
 }
 
-/// The number, and the slices after the call.
-type Written = (u32, Bytes, Bytes);
-
 impl Write {
-    fn ours(&self) -> Written {
+    /// The number, and the slices after the call.
+    fn ours(&self) -> (u32, Bytes, Bytes) {
         let Write { shot, sides: [w, h], mut answer, mut out } = *self;
-        // Through a pointer that may write, so that a change of what is only read would show.
+        // Pointers that may write: a change of what is only read would show.
         let (from, to) = (answer.held.as_mut_ptr(), out.held.as_mut_ptr());
         let number = unsafe { vuzgari_record_write(shot, w, h, from, answer.len, to, out.len) };
         (number, answer, out)
     }
 
-    fn theirs(&self) -> Written {
+    fn theirs(&self) -> (u32, Bytes, Bytes) {
         let left = |number: u32, out: Bytes| (number, self.answer, out);
         if self.answer.len < ANSWER {
             return left(4, self.out);
@@ -310,24 +308,29 @@ impl Value for Record {
     }
 }
 
-fn writes(run: &mut Run, what: &str, calls: impl Iterator<Item = Write>) {
+/// Compares calls, and counts them by the number that they answer.
+fn numbered<A: Value, B: Value + Clone, C: Value + Clone>(
+    run: &mut Run,
+    what: &str,
+    calls: impl Iterator<Item = A>,
+    ours: fn(&A) -> (u32, B, C),
+    theirs: fn(&A) -> (u32, B, C),
+) {
     let mut seen = BTreeMap::<u32, u64>::new();
-    run.same(what, calls, Write::ours, |call| {
-        let left = call.theirs();
+    run.same(what, calls, ours, |call| {
+        let left = theirs(call);
         *seen.entry(left.0).or_default() += 1;
         left
     });
     seen.into_iter().for_each(|(number, n)| run.count(&format!("{what}, answer {number}"), n));
 }
 
+fn writes(run: &mut Run, what: &str, calls: impl Iterator<Item = Write>) {
+    numbered(run, what, calls, Write::ours, Write::theirs);
+}
+
 fn reads(run: &mut Run, what: &str, calls: impl Iterator<Item = Read>) {
-    let mut seen = BTreeMap::<u32, u64>::new();
-    run.same(what, calls, Read::ours, |call| {
-        let left = call.theirs();
-        *seen.entry(left.0).or_default() += 1;
-        left
-    });
-    seen.into_iter().for_each(|(number, n)| run.count(&format!("{what}, answer {number}"), n));
+    numbered(run, what, calls, Read::ours, Read::theirs);
 }
 
 // Fixed lists.
@@ -383,11 +386,10 @@ fn sides() -> Vec<Record> {
         (1 << 32) + 26, 1 << 63, u64::MAX,
     ];
     let pairs = some.into_iter().flat_map(|w| some.map(|h| [w, h]));
-    let near = |sides: [u64; 2]| [sides, sides.map(|side| side.clamp(4, 16_384)), sides.map(|side| side % 65_536), sides.map(|side| side % 32_768)];
+    let changes: [fn(u64) -> u64; 4] = [|side| side, |side| side.clamp(4, 16_384), |side| side % 65_536, |side| side % 32_768];
     let counted = pairs.flat_map(|sides| {
-        let mut counts: Vec<u64> = near(sides).into_iter().filter(|near| near.iter().all(|&side| side < 20_000)).flat_map(totals).collect();
-        counts.sort();
-        counts.dedup();
+        let near = changes.map(|change| sides.map(change)).into_iter().filter(|near| near.iter().all(|&side| side < 20_000));
+        let counts: BTreeSet<u64> = near.flat_map(totals).collect();
         counts.into_iter().map(move |total| (sides, total))
     });
     counted.flat_map(|(sides, total)| [0, 5].map(|answer| plain(sides, answer, split(total, 0, 4)))).collect()
@@ -454,8 +456,8 @@ fn wrapped() -> Vec<Record> {
             all.push((sides, more));
         }
     }
-    let made = all.into_iter().flat_map(|(sides, [b0, b1, b2, b3, rail])| [0, 5].map(|answer| plain(sides, answer, ([b0, b1, b2, b3], rail))));
-    made.collect()
+    let counted = all.into_iter().map(|(sides, [b0, b1, b2, b3, rail])| (sides, ([b0, b1, b2, b3], rail)));
+    counted.flat_map(|(sides, counts)| [0, 5].map(|answer| plain(sides, answer, counts))).collect()
 }
 
 /// A good record and broken ones, for slices of each length.
@@ -640,50 +642,51 @@ fn seeded(run: &mut Run) {
 
 /// What is written is read back, and what is read is written back; other bytes past a record change nothing.
 fn both_ways(run: &mut Run) {
-    let mut random = run.random("both ways");
-    let sides = pool(&mut random, run.size(1_600).min(20_000));
-    let mut calls = || (Record::any(&mut random, &sides), random.bits());
-    let records: Vec<(Record, u64)> = repeat_with(&mut calls).take(run.size(200_000) as usize).collect();
+    let sides = pool(&mut run.random("both ways"), run.size(1_600).min(20_000));
     run.same(
         "read after write",
-        records.iter().copied(),
+        good_records(run, "read after write", &sides),
         |&(record, seed)| {
-            let random = &mut Random::new(seed);
-            let (number, _, out) = Write::of(random, record).ours();
-            let read = Read { bytes: out, fields: fields(FIELDS) }.ours();
-            (number, read.0, Record::of_fields(read.2.lent()))
+            let (number, _, out) = Write::of(&mut Random::new(seed), record).ours();
+            let (again, _, left) = Read { bytes: out, fields: fields(FIELDS) }.ours();
+            (number, again, left)
         },
-        |&(record, _)| (0, 0, record),
+        |&(record, _)| (0, 0, fields(FIELDS).with(&record.fields())),
     );
     run.same(
         "write after read",
-        records.iter().copied(),
+        good_records(run, "write after read", &sides),
         |&(record, seed)| {
             let random = &mut Random::new(seed);
-            let (number, _, fields) = Read::any(random, record.bytes()).ours();
-            let again = Write { out: bytes(BYTES), ..Write::of(random, Record::of_fields(fields.lent())) }.ours();
-            (number, again.0, again.2)
+            let (number, _, read) = Read::any(random, record.bytes()).ours();
+            let (again, _, out) = Write { out: bytes(BYTES), ..Write::of(random, Record::of_fields(read.lent())) }.ours();
+            (number, again, out)
         },
         |&(record, _)| (0, 0, bytes(BYTES).with(&record.bytes())),
     );
     run.same(
         "other bytes past the record",
-        records.iter().copied(),
+        good_records(run, "other bytes past the record", &sides),
         |&(record, seed)| {
             let random = &mut Random::new(seed);
             let spoiled = record.spoiled(random).bytes();
-            let past = |random: &mut Random| {
+            let past = |_| {
                 let (number, _, left) = Read { fields: fields(FIELDS), ..Read::any(random, spoiled) }.ours();
                 (number, left)
             };
-            [past(random), past(random)]
+            [(); 2].map(past)
         },
         |&(record, seed)| {
-            let spoiled = record.spoiled(&mut Random::new(seed)).bytes();
-            let (number, _, left) = Read::of(spoiled).theirs();
-            [(number, left), (number, left)]
+            let (number, _, left) = Read::of(record.spoiled(&mut Random::new(seed)).bytes()).theirs();
+            [(number, left); 2]
         },
     );
+}
+
+/// Records that the rule takes, each with a seed for what else a call is lent.
+fn good_records<'a>(run: &Run, what: &str, sides: &'a [[u64; 2]]) -> impl Iterator<Item = (Record, u64)> + use<'a> {
+    let mut random = run.random(what);
+    repeat_with(move || (Record::any(&mut random, sides), random.bits())).take(run.size(200_000) as usize)
 }
 
 /// What the noise call answers with 0, 5, 6 or 7 is written for any shot, and read back as the original has it.
@@ -691,7 +694,7 @@ fn measured(run: &mut Run) {
     let mut random = run.random("noise calls");
     let mut seen = [0; 8];
     let mut twice = 0;
-    let images = repeat_with(|| (Image::any(&mut random), random.bits() as u32)).take(run.size(2_000) as usize);
+    let images = repeat_with(|| (Image::any(&mut random), random.bits() as u32)).take(run.size(2_000).min(20_000) as usize);
     run.same(
         "noise calls",
         images,
@@ -723,16 +726,18 @@ fn measured(run: &mut Run) {
 /// What the slices of the program `stored_records` hold before a call.
 const HELD: (u8, u64) = (0xee, 999);
 
-/// A record about each limit of the rule, as many good as broken.
+/// Records at each limit of the rule and beyond it.
 fn limits() -> Vec<Record> {
     let right = plain([26, 26], 0, split(529, 17, 4));
     let few = plain([25, 25], 5, split(484, 9, 4));
     let [first, second] = totals([300, 200]);
-    let sides = [[4, 4], [3, 26], [26, 3], [0, 0], [16_384, 4], [4, 16_384], [16_385, 4], [4, 16_385], [65_562, 26], [26, (1 << 32) + 26], [u64::MAX, 26]];
+    let wide = [[65_562, 26], [26, (1 << 32) + 26], [u64::MAX, 26]];
+    let sides = [[4, 4], [3, 26], [26, 3], [0, 0], [16_384, 4], [4, 16_384], [16_385, 4], [4, 16_385]].into_iter().chain(wide);
     let near = |side: u64| if side > 20_000 { side % 65_536 } else { side };
-    let mut all: Vec<Record> = sides.map(|sides| plain(sides, 5, split(totals(sides.map(near))[0], 0, 4))).into();
+    let mut all: Vec<Record> = sides.map(|sides| plain(sides, 5, split(totals(sides.map(near))[0], 0, 4))).collect();
     all.extend([0, 1, 4, 5, 6, 7, 8, 255, 256, 261, 1 << 24].map(|answer| Record { answer, ..few }));
-    all.extend([0, 1, 0x447a_0000, 0x447a_0001, 0x8000_0000, 0xc47a_0000, 0x7f80_0000, 0x7fc0_0000, 0xffc0_0000].map(|sigma| Record { sigma, ..right }));
+    let sigmas = [0, 1, 0x447a_0000, 0x447a_0001, 0x8000_0000, 0xc47a_0000, 0x7f80_0000, 0x7fc0_0000, 0xffc0_0000];
+    all.extend(sigmas.map(|sigma| Record { sigma, ..right }));
     all.extend([1, 0x8000_0000].map(|sigma| Record { sigma, ..few }));
     all.extend([511, 512].into_iter().flat_map(|kept| [0, 6].map(|answer| plain([26, 26], answer, split(529, 529 - kept, 4)))));
     all.extend([first - 1, first, first + 1, second - 1, second, second + 1].map(|total| plain([300, 200], 0, split(total, 40, 4))));
@@ -745,50 +750,47 @@ fn limits() -> Vec<Record> {
 /// the first, eight in a column.
 fn store() -> Stored {
     let mut lines = Lines::new(10);
-    let columns = |bytes: &Bytes| -> [u64; 5] { array::from_fn(|k| u64::from_be_bytes(bytes.held[8 * k..8 * k + 8].try_into().unwrap())) };
-    let mut write = |call: Write| {
-        let call = Write { out: Lent { held: [HELD.0; 48], ..call.out }, ..call };
-        let (number, _, out) = call.theirs();
-        let [w, h] = call.sides.map(|side| side as u64);
-        let numbers = [&[call.shot.into(), w, h, call.answer.len as u64, call.out.len as u64][..], &columns(&call.answer)].concat();
-        lines.call('w', &numbers, &format!("write {number} {}", out.held[..ANSWER].iter().map(|byte| format!("{byte:02x}")).collect::<String>()));
-    };
-    let of = |record: Record| {
-        let words = record.words([0x3333_3333, 0x8888_8888, 0x9999_9999]).map(u32::to_le_bytes);
-        Write { shot: record.shot, sides: record.sides.map(|side| side as usize), answer: bytes(ANSWER).with(words.as_flattened()), out: bytes(BYTES) }
-    };
     let (right, wrong) = (plain([26, 26], 0, split(529, 17, 4)), plain([26, 26], 0, split(529, 18, 4)));
-    good().step_by(5).chain(limits()).for_each(|record| write(of(record)));
-    for (record, answer, out) in [
-        (right, 0, 35), (right, 39, 35), (right, 39, 34), (wrong, 39, 35), (right, 40, 0), (right, 40, 34), (right, 40, 36), (right, 40, 40),
-        (wrong, 40, 34), (wrong, 40, 0), (wrong, 40, 40), (wrong, 0, 0),
-    ] {
-        let call = of(record);
-        write(Write { answer: Lent { len: answer, ..call.answer }, out: bytes(out), ..call });
-    }
+    let whole = good().step_by(5).chain(limits()).map(|record| (record, ANSWER, BYTES));
+    let lengths = [
+        (right, 0, 35), (right, 39, 35), (right, 39, 34), (wrong, 39, 35), (right, 40, 0), (right, 40, 34), (right, 40, 36),
+        (right, 40, 40), (wrong, 40, 34), (wrong, 40, 0), (wrong, 40, 40), (wrong, 0, 0),
+    ];
+    whole.chain(lengths).for_each(|(record, answer, out)| store_write(&mut lines, record, answer, out));
 
-    let mut read = |call: Read| {
-        let call = Read { fields: Lent { held: [HELD.1; 14], ..call.fields }, ..call };
-        let (number, _, fields) = call.theirs();
-        let numbers = [&[0, 0, 0, call.bytes.len as u64, call.fields.len as u64][..], &columns(&call.bytes)].concat();
-        lines.call('r', &numbers, &format!("read {number}{}", fields.held[..FIELDS + 2].iter().map(|field| format!(" {field}")).collect::<String>()));
-    };
-    good().step_by(7).chain(limits()).filter(Record::fits).for_each(|record| read(Read::of(record.bytes())));
-    (0..BYTES).for_each(|k| {
-        let mut bytes = right.bytes();
-        bytes[k] ^= 1 << (k % 8);
-        read(Read::of(bytes));
-    });
-    let mut other = right.bytes();
-    other[..2].copy_from_slice(&[0x4e, 0x47]);
-    let mut both = wrong.bytes();
-    both[..2].copy_from_slice(&[0x46, 0x4e]);
-    for (record, len, places) in [
-        (right.bytes(), 0, 10), (right.bytes(), 34, 10), (right.bytes(), 36, 10), (right.bytes(), 40, 12), (right.bytes(), 35, 11),
-        (right.bytes(), 35, 9), (right.bytes(), 35, 0), (right.bytes(), 34, 9), (other, 35, 10), (other, 34, 10), (other, 35, 9), (other, 40, 12),
-        (both, 35, 10), (both, 1, 10), (both, 0, 9), (wrong.bytes(), 34, 10), (wrong.bytes(), 35, 9), (wrong.bytes(), 40, 12),
-    ] {
-        read(Read { bytes: bytes(len).with(&record), fields: fields(places) });
-    }
+    let marked = |mark: [u8; 2], record: Record| array::from_fn(|k| if k < 2 { mark[k] } else { record.bytes()[k] });
+    let (other, both) = (marked([0x4e, 0x47], right), marked([0x46, 0x4e], wrong));
+    let (right, wrong) = (right.bytes(), wrong.bytes());
+    let whole = good().step_by(7).chain(limits()).filter(Record::fits).map(|record| record.bytes());
+    let changed = (0..BYTES).map(|k| array::from_fn(|at| right[at] ^ if at == k { 1 << (k % 8) } else { 0 }));
+    let lengths = [
+        (right, 0, 10), (right, 34, 10), (right, 36, 10), (right, 40, 12), (right, 35, 11), (right, 35, 9), (right, 35, 0), (right, 34, 9),
+        (other, 35, 10), (other, 34, 10), (other, 35, 9), (other, 40, 12), (both, 35, 10), (both, 1, 10), (both, 0, 9), (wrong, 34, 10),
+        (wrong, 35, 9), (wrong, 40, 12),
+    ];
+    let all = whole.chain(changed).map(|record| (record, BYTES, FIELDS)).chain(lengths);
+    all.for_each(|(record, n, m)| store_read(&mut lines, record, n, m));
     lines.stored()
+}
+
+/// Forty bytes in five columns.
+fn columns(bytes: &Bytes) -> [u64; 5] {
+    array::from_fn(|k| u64::from_be_bytes(bytes.held[8 * k..8 * k + 8].try_into().unwrap()))
+}
+
+fn store_write(lines: &mut Lines, record: Record, answer_len: usize, out_len: usize) {
+    let words = record.words([0x3333_3333, 0x8888_8888, 0x9999_9999]).map(u32::to_le_bytes);
+    let (answer, out) = (bytes(answer_len).with(words.as_flattened()), Lent::new(out_len, |_| HELD.0));
+    let (number, _, left) = Write { shot: record.shot, sides: record.sides.map(|side| side as usize), answer, out }.theirs();
+    let numbers = [&[record.shot.into(), record.sides[0], record.sides[1], answer_len as u64, out_len as u64][..], &columns(&answer)];
+    let shown: String = left.held[..40].iter().map(|byte| format!("{byte:02x}")).collect();
+    lines.call('w', &numbers.concat(), &format!("write {number} {shown}"));
+}
+
+fn store_read(lines: &mut Lines, record: [u8; BYTES], bytes_len: usize, fields_len: usize) {
+    let call = Read { bytes: bytes(bytes_len).with(&record), fields: Lent::new(fields_len, |_| HELD.1) };
+    let (number, _, left) = call.theirs();
+    let numbers = [&[0, 0, 0, bytes_len as u64, fields_len as u64][..], &columns(&call.bytes)];
+    let shown: String = left.held[..12].iter().map(|field| format!(" {field}")).collect();
+    lines.call('r', &numbers.concat(), &format!("read {number}{shown}"));
 }

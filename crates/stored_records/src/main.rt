@@ -1,5 +1,5 @@
-// Replays stored calls that write and read records: a list on standard input, what each call answers and leaves on standard output.
-// `oracle/compare --store records` makes both anew.
+// Replays stored calls that write and read records: a list on standard input, what each call answers and leaves on standard
+// output. `oracle/compare --store records` makes both anew.
 ghost use mathlib.Core.Path.{_≡_};
 ghost use lib.ListN.{length};
 use libc::STDIN_FILENO;
@@ -17,6 +17,7 @@ fn byte(text: &[u8], i: usize, k: usize) -> u8 {
     ((n >> (56 - k % 8 * 8)) % 256) as u8
 }
 
+// All forty of them.
 fn bytes_in(text: &[u8], i: usize) -> [u8; 40]
     ensures { λ r. ⌜ length r ≡ 40 ⌝ }
 {
@@ -47,7 +48,7 @@ fn report_fields(fields: &[u64; 12]) {
     }
 }
 
-// Writes from the first n bytes of an answer into the first m of 40.
+// Writes from the first n bytes of an answer into the first m of 40, and reports all 40.
 fn write(answer: &[u8], n: usize, m: usize, shot: u32, w: usize, h: usize) {
     let mut out = [0xee; 40];
     if n > answer.len() {
@@ -61,7 +62,7 @@ fn write(answer: &[u8], n: usize, m: usize, shot: u32, w: usize, h: usize) {
     report_bytes(&out);
 }
 
-// Reads from the first n of the bytes into the first m of 12 fields.
+// Reads from the first n of the bytes into the first m of 12 fields, and reports all 12.
 fn read(bytes: &[u8], n: usize, m: usize) {
     let mut fields = [999; 12];
     if n > bytes.len() {
