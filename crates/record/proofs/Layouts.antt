@@ -8,7 +8,7 @@ use lib.Seq.{slice, take-at, drop-at, take-add, length-take-le, take-append-le, 
 use Rattle.laws.proofs.Each.{each-take, each-drop}
 use Rattle.little_endian.specs.Bytes.{bytesOf, valueOf, Bytes}
 use Rattle.little_endian.proofs.Laws.{length-bytes, value-bytes, bytes-value, value-lt}
-use Rattle.record.specs.Layout.{bytesIn, numbersIn, total, Fit}
+use Rattle.record.specs.Layout.{bytesIn, numbersIn, widthSum, Fit}
 
 -- ---- a part of a list, cut from its start
 pub slice-is : {A : Type 0} (at n : ℕ) (l : List A) → at + n ≤ length l → slice at (at + n) l ≡ take n (drop at l)
@@ -16,7 +16,7 @@ slice-is {A} at n l h = ap (λ (k : List A). drop at k) (take-add at n l) ∙ dr
 
 -- ---- round trips
 
-pub length-laid : (ns xs : List ℕ) → Fit ns xs → length (bytesIn ns xs) ≡ total ns
+pub length-laid : (ns xs : List ℕ) → Fit ns xs → length (bytesIn ns xs) ≡ widthSum ns
 unfolding bytesIn Fit
 length-laid [] xs f = refl
 length-laid (n ∷ ns) [] f = absurd f
@@ -34,17 +34,17 @@ numbers-bytes (n ∷ ns) (x ∷ xs) after f =
     ∙ ap (λ (l : List ℕ). x ∷ numbersIn ns l) (drop-at (bytesOf n x) (bytesIn ns xs ++ after) n (length-bytes n x))
     ∙ ap (λ (l : List ℕ). x ∷ l) (numbers-bytes ns xs after (f .1))
 
-pub bytes-numbers : (ns l : List ℕ) → Bytes l → total ns ≤ length l → bytesIn ns (numbersIn ns l) ≡ take (total ns) l
+pub bytes-numbers : (ns l : List ℕ) → Bytes l → widthSum ns ≤ length l → bytesIn ns (numbersIn ns l) ≡ take (widthSum ns) l
 unfolding bytesIn numbersIn
 bytes-numbers [] l b h = refl
 bytes-numbers (n ∷ ns) l b h =
     ap (λ (m : ℕ). bytesOf m (valueOf (take n l)) ++ bytesIn ns (numbersIn ns (drop n l))) (sym (length-take-le n l (omega arith)))
     ∙ ap (λ (k : List ℕ). k ++ bytesIn ns (numbersIn ns (drop n l))) (bytes-value (take n l) (each-take (λ b. b < 256) n l b))
     ∙ ap (λ (k : List ℕ). take n l ++ k) (bytes-numbers ns (drop n l) (each-drop (λ b. b < 256) n l b) (omega (arith, length-drop n l)))
-    ∙ sym (take-add n (total ns) l)
+    ∙ sym (take-add n (widthSum ns) l)
 
 -- what is numbersIn fits
-pub numbers-fit : (ns l : List ℕ) → Bytes l → total ns ≤ length l → Fit ns (numbersIn ns l)
+pub numbers-fit : (ns l : List ℕ) → Bytes l → widthSum ns ≤ length l → Fit ns (numbersIn ns l)
 unfolding numbersIn Fit
 numbers-fit [] l b h = tt
 numbers-fit (n ∷ ns) l b h = (
@@ -53,7 +53,7 @@ numbers-fit (n ∷ ns) l b h = (
 )
 
 -- only the bytes of the widths are read
-pub numbers-front : (ns l : List ℕ) (after : List ℕ) → total ns ≤ length l → numbersIn ns (l ++ after) ≡ numbersIn ns l
+pub numbers-front : (ns l : List ℕ) (after : List ℕ) → widthSum ns ≤ length l → numbersIn ns (l ++ after) ≡ numbersIn ns l
 unfolding numbersIn
 numbers-front [] l after h = refl
 numbers-front (n ∷ ns) l after h =
@@ -67,7 +67,7 @@ abbrev pub slicesAt : List ℕ → ℕ → List ℕ → List ℕ
 slicesAt [] at l = []
 slicesAt (n ∷ ns) at l = valueOf (slice at (at + n) l) ∷ slicesAt ns (at + n) l
 
-pub numbers-at : (ns : List ℕ) (at : ℕ) (l : List ℕ) → at + total ns ≤ length l → slicesAt ns at l ≡ numbersIn ns (drop at l)
+pub numbers-at : (ns : List ℕ) (at : ℕ) (l : List ℕ) → at + widthSum ns ≤ length l → slicesAt ns at l ≡ numbersIn ns (drop at l)
 unfolding numbersIn
 numbers-at [] at l h = refl
 numbers-at (n ∷ ns) at l h =

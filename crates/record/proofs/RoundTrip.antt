@@ -14,7 +14,7 @@ use Rattle.little_endian.specs.Bytes.{Bytes}
 use Rattle.record.specs.declared.Record.{Record}
 use Rattle.record.specs.declared.Reading.{Reading}
 use Rattle.record.specs.declared.Reading.the-variants.{Given, Refused}
-use Rattle.record.specs.Layout.{bytesIn, numbersIn, total, Fit}
+use Rattle.record.specs.Layout.{bytesIn, numbersIn, widthSum, Fit}
 use Rattle.record.specs.Rule.{Stored, Allowed, allowed}
 use Rattle.record.specs.Records.{Form, formNF, sizeOf, fieldsOf, recordOf, bytesAs, Written, writtenAs, marked, recordIn, readAs}
 use Rattle.record.specs.RoundTrip.{Typed}

@@ -16,9 +16,9 @@ numbersIn [] l = []
 numbersIn (n ∷ ns) l = valueOf (take n l) ∷ numbersIn ns (drop n l)
 
 -- how many bytes the widths take
-abbrev pub total : List ℕ → ℕ
-total [] = 0
-total (n ∷ ns) = n + total ns
+abbrev pub widthSum : List ℕ → ℕ
+widthSum [] = 0
+widthSum (n ∷ ns) = n + widthSum ns
 
 -- there is one number for each width, and it fits
 unfoldable pub Fit : List ℕ → List ℕ → Type 0

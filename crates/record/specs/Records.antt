@@ -4,7 +4,7 @@ use mathlib.Core.List.{List, [], _∷_, _++_}
 use Prim.Native.Nat.{ℕ, _+_}
 use lib.Dec.{ltb, eqb}
 use lib.ListN.{length, getD, drop}
-use Rattle.record.specs.Layout.{bytesIn, numbersIn, total}
+use Rattle.record.specs.Layout.{bytesIn, numbersIn, widthSum}
 use Rattle.record.specs.Rule.{allowed}
 use Rattle.record.specs.declared.Record.{Record}
 use Rattle.record.specs.declared.Reading.{Reading}
@@ -22,7 +22,7 @@ abbrev pub formNF : Form
 formNF = record { mark = 0x46; widths = 4 ∷ 2 ∷ 2 ∷ 1 ∷ 4 ∷ 4 ∷ 4 ∷ 4 ∷ 4 ∷ 4 ∷ [] }
 
 abbrev pub sizeOf : Form → ℕ
-sizeOf f = 2 + total (f .widths)
+sizeOf f = 2 + widthSum (f .widths)
 
 -- ---- a record as numbers
 
