@@ -18,12 +18,12 @@ static void stop(const char *what)
     exit(2);
 }
 
-/* Asks how much memory the noise call needs, lends it, and leaves the answer's bytes as the call writes them. */
-static void measure(const uint8_t *pixels, size_t w, size_t h, uint8_t bytes[VUZGARI_ANSWER_BYTES])
+/* Asks how much memory the noise call needs, lends it, and returns the call's number. */
+static uint32_t measure(const uint8_t *pixels, size_t w, size_t h, uint8_t bytes[VUZGARI_ANSWER_BYTES])
 {
     uint64_t windows = vuzgari_noise_windows(w, h);
     if (vuzgari_number_of(windows) != VUZGARI_GIVEN) {
-        return; /* a side is too long or too short */
+        return vuzgari_number_of(windows); /* a side is too long or too short */
     }
     size_t ints_len = 3 * (size_t)windows;
     size_t floats_len = 2 * (size_t)windows + 2;
@@ -32,21 +32,31 @@ static void measure(const uint8_t *pixels, size_t w, size_t h, uint8_t bytes[VUZ
     if (ints == NULL || floats == NULL) {
         stop("log");
     }
-    vuzgari_noise(pixels, w * h, w, h, ints, ints_len, floats, floats_len, bytes, VUZGARI_ANSWER_BYTES);
+    uint32_t number =
+        vuzgari_noise(pixels, w * h, w, h, ints, ints_len, floats, floats_len, bytes, VUZGARI_ANSWER_BYTES);
     free(ints);
     free(floats);
+    return number;
 }
 
-/* A lid without a figure has a record too (5 to 7). Bytes that the noise call left zero, refused, make none (19). */
+static void refuse(uint32_t shot, uint32_t number)
+{
+    fprintf(stderr, "log: shot %u: number %u: %s\n", (unsigned)shot, (unsigned)number, vuzgari_reason(number));
+    exit(1);
+}
+
+/* A lid without a figure has a record too, 5 to 7; after 1 to 4 there is no answer to keep. */
 static void append(FILE *log, const char *path, uint32_t shot, const uint8_t *pixels)
 {
-    uint8_t bytes[VUZGARI_ANSWER_BYTES] = {0};
+    uint8_t bytes[VUZGARI_ANSWER_BYTES];
     uint8_t record[VUZGARI_RECORD_BYTES];
-    measure(pixels, WIDTH, HEIGHT, bytes);
-    uint32_t number = vuzgari_record_write(shot, WIDTH, HEIGHT, bytes, sizeof bytes, record, sizeof record);
+    uint32_t number = measure(pixels, WIDTH, HEIGHT, bytes);
+    if (number >= VUZGARI_SIDE_ABOVE && number <= VUZGARI_SHORT_SLICE) {
+        refuse(shot, number);
+    }
+    number = vuzgari_record_write(shot, WIDTH, HEIGHT, bytes, sizeof bytes, record, sizeof record);
     if (number != VUZGARI_GIVEN) {
-        fprintf(stderr, "log: shot %u: number %u: %s\n", (unsigned)shot, (unsigned)number, vuzgari_reason(number));
-        exit(1);
+        refuse(shot, number);
     }
     if (fwrite(record, sizeof record, 1, log) != 1 || fflush(log) != 0) {
         stop(path);

@@ -33,7 +33,7 @@ enum vuzgari_number {
     VUZGARI_SIDE_ABOVE = 1,    /* a side is above 16,384 */
     VUZGARI_OTHER_LENGTH = 2,  /* the pixel slice is not width x height long */
     VUZGARI_SIDE_BELOW = 3,    /* a side is below 4: a window needs 4 by 4 pixels */
-    VUZGARI_SHORT_SLICE = 4,   /* a work slice or the answer slice is too short */
+    VUZGARI_SHORT_SLICE = 4,   /* a work slice, the answer slice or the slice of fields is too short */
     VUZGARI_FEW = 5,           /* under 512 windows are kept: the lid is small, or too much of it is near black or white */
     VUZGARI_NONE = 6,          /* no band of brightness has a variance: there is no quiet area */
     VUZGARI_THIN = 7,          /* the bands that join hold under 512 windows: there is too little quiet area */
@@ -98,11 +98,11 @@ struct vuzgari_answer vuzgari_answer_from(const uint8_t *bytes);
 
 /* Writes the record of a shot: its number, the sides of its image, and the noise call's answer. Lent are at least 40
    bytes of `answer` as the noise call wrote them, which are only read (milli, rounds and passes are not looked at), and
-   at least 35 bytes for the record. Returns the first of 4 (a short answer), 19, 18 (a short `out`), or 0. After 0 the
-   first 35 bytes of `out` are the record: hex 4E 46, then, low byte first, the fields of struct vuzgari_record in its
-   order, 4 bytes each, but 2 for width and height and 1 for the answer. What is lent beyond is unchanged; after a
-   refusal everything is. Call it only where the noise call returned 0, 5, 6 or 7: after 1 to 4 that call has left
-   `answer` as it was, perhaps with another shot's answer in it.
+   at least 35 bytes for the record. Returns the first of 4 (a short answer), 19, 18 (a short `out`), or 0, which says
+   here that there is a record. After 0 the first 35 bytes of `out` are the record: hex 4E 46, then, low byte first, the
+   fields of struct vuzgari_record in its order, 4 bytes each, but 2 for width and height and 1 for the answer. What is
+   lent beyond is unchanged; after a refusal everything is. Call it only where the noise call returned 0, 5, 6 or 7:
+   after 1 to 4 that call has left `answer` as it was, perhaps with another shot's answer in it.
 
    The rule: sides are 4 to 16,384. The answer is 0, 5, 6 or 7. With 0, sigma is 0 to 1,000 without a minus sign, and at
    least 512 windows are kept; with the others its bits are zero. The windows kept and dropped are, together, those of
@@ -112,8 +112,9 @@ uint32_t vuzgari_record_write(uint32_t shot, size_t w, size_t h, const uint8_t *
                               uint8_t *out, size_t out_len);
 
 /* Reads a record. Lent are at least 35 bytes, of which the first 35 are read, and at least 10 fields. Returns the first
-   of 4 (under 10 fields), 18 (under 35 bytes), 17, 19, or 0. After 0 the first 10 of `fields` are those of struct
-   vuzgari_record, in its order, sigma by its bits. What is lent beyond is unchanged; after a refusal everything is. */
+   of 4 (under 10 fields), 18 (under 35 bytes), 17, 19, or 0, which says here that there is a record. After 0 the first
+   10 of `fields` are those of struct vuzgari_record, in its order, sigma by its bits. What is lent beyond is unchanged;
+   after a refusal everything is. */
 uint32_t vuzgari_record_read(const uint8_t *bytes, size_t bytes_len, uint64_t *fields, size_t fields_len);
 
 /* The record of a shot. */

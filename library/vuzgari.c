@@ -22,7 +22,7 @@ const char *vuzgari_reason(uint32_t number)
     case VUZGARI_SIDE_BELOW:
         return "a side is below 4: a window needs 4 by 4 pixels";
     case VUZGARI_SHORT_SLICE:
-        return "a work slice or the answer slice is too short";
+        return "a work slice, the answer slice or the slice of fields is too short";
     case VUZGARI_FEW:
         return "under 512 windows are kept: the lid is small, or too much of it is near black or white";
     case VUZGARI_NONE:

@@ -7,8 +7,8 @@
 //! held to what --store would write. At scale smaller turns, each with inputs of its own, follow one another until the time is
 //! over; fixed lists are cut into SLICES slices, one to a turn. The first turn is always whole. The same seed gives the same
 //! inputs; --turn T begins at turn T. Progress goes to standard error, the counts of what was compared come at the end; a run that
-//! compares nothing of a topic ends with status 1. So does the first difference: its sides and counts are halved while it still
-//! differs, and it is printed as a call, with floats as hexadecimal patterns.
+//! compares nothing of a topic, or at the gate's size nothing of a kind, ends with status 1. So does the first difference: its
+//! sides and counts are halved while it still differs, and it is printed as a call, with floats as hexadecimal patterns.
 
 mod images;
 mod random;
@@ -108,7 +108,7 @@ impl Run {
         list.skip(skip as usize).step_by(step as usize)
     }
 
-    /// Compares the call `what` with the original's on each input.
+    /// Compares the call `what` with the original's, or with another reading of the paper, on each input.
     pub fn same<A: Value, R: Value>(
         &mut self,
         what: &str,
@@ -126,7 +126,7 @@ impl Run {
                 }
                 let (got, want) = (ours(&input), theirs(&input));
                 self.tell_counts();
-                println!("compare: {} {what}({}) is {}, the original's {}", self.topic, input.shown(), got.shown(), want.shown());
+                println!("compare: {} {what}({}) is {}, and not {}", self.topic, input.shown(), got.shown(), want.shown());
                 println!("compare: seed {}, turn {}, after {n} that agree, made smaller {times} times", self.seed, self.turn);
                 exit(1);
             }
@@ -139,6 +139,9 @@ impl Run {
         self.compared += n;
         if n > 0 {
             self.busy.insert(self.topic);
+        } else if let Limit::Gate = self.limit {
+            println!("compare: nothing was compared of {} {what}", self.topic);
+            exit(1);
         }
         self.count(what, n);
     }
@@ -255,6 +258,7 @@ fn main() {
     }
     let limit = match (scale, seconds, count) {
         (true, seconds, None) => Limit::Seconds(seconds.unwrap_or(SECONDS)),
+        (false, None, Some(0)) => stop("--count is 1 or more"),
         (false, None, Some(n)) => Limit::Count(n),
         (false, None, None) if turn == 0 => Limit::Gate,
         _ => stop("--seconds and --turn go with --scale, --count goes without"),

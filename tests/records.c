@@ -80,6 +80,7 @@ static const struct named broken[] = {
     {"number 7 with minus 0", {1, 26, 26, {7, 0x80000000, [BAND_0] = 529}}},
     {"511 kept", {1, 26, 26, {0, 0x3F800000, [BAND_1] = 511, [RAIL] = 18}}},
     {"none kept", {1, 26, 26, {0, 0x3F800000, [RAIL] = 529}}},
+    {"an answer of zeros", {1, 26, 26, {0}}},
     {"a window short", {1, 26, 26, {0, 0x3F800000, [BAND_1] = 528}}},
     {"a window too many", {1, 26, 26, {0, 0x3F800000, [BAND_1] = 530}}},
     {"a window short of the first pass", {1, 91, 91, {5, [RAIL] = 1935}}},

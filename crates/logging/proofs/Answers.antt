@@ -27,7 +27,7 @@ use Rattle.noise.proofs.Leaving.{noise-refused, noise-measured}
 use Rattle.noise.proofs.Totals.{windowsIn, totalBy, counts-add}
 use Rattle.noise.proofs.Demand1.{demand1}
 use Rattle.bounds.proofs.Answers.{sigma-is-number}
-use Rattle.record.specs.Rule.{Stored, storedAnswer, Allowed}
+use Rattle.record.specs.Rule.{AnswerStored, storedAnswer, Allowed}
 use Rattle.logging.specs.Logging.{recordOfAnswer}
 
 -- ---- the numbers that are stored are those of a call whose passes ran
@@ -39,19 +39,19 @@ stored-ran n = refl
 never : true ≡ false → ⊥
 never e = let q : _≡_ {A = ℕ} 1 0 = ap (λ (b : Bool). cond b 1 0) e in omega arith
 
-pub ran-of : (n : ℕ) → Stored n → ran n ≡ true
+pub ran-of : (n : ℕ) → AnswerStored n → ran n ≡ true
 ran-of n (inl e) = ap ran e
 ran-of n (inr (inl e)) = ap ran e
 ran-of n (inr (inr (inl e))) = ap ran e
 ran-of n (inr (inr (inr e))) = ap ran e
 
-pub stored-of : (n : ℕ) → ran n ≡ true → Stored n
+pub stored-of : (n : ℕ) → ran n ≡ true → AnswerStored n
 stored-of n h = by-case (eqb n 0) (eqb n 5) (eqb n 6) (eqb n 7) refl refl refl refl
   where
     none : eqb n 0 ≡ false → eqb n 5 ≡ false → eqb n 6 ≡ false → eqb n 7 ≡ false → ran n ≡ false
     none p q r s = rw (p, q, r, s)
 
-    by-case : (a b c d : Bool) → eqb n 0 ≡ a → eqb n 5 ≡ b → eqb n 6 ≡ c → eqb n 7 ≡ d → Stored n
+    by-case : (a b c d : Bool) → eqb n 0 ≡ a → eqb n 5 ≡ b → eqb n 6 ≡ c → eqb n 7 ≡ d → AnswerStored n
     by-case true b c d p q r s = inl (eqb-true n 0 p)
     by-case false true c d p q r s = inr (inl (eqb-true n 5 q))
     by-case false false true d p q r s = inr (inr (inl (eqb-true n 6 r)))
@@ -65,7 +65,7 @@ unfolding toBits ofBits
 zero-bits = refl
 
 module _ (img : List ℕ) (bytes : (i : ℕ) → getD img i 0 ≤ 255) (w h : ℕ) (short : Bool)
-    (stored : Stored (noiseOf img w h short .number)) where
+    (stored : AnswerStored (noiseOf img w h short .number)) where
   abbrev a : Answer
   a = noiseOf img w h short
 

@@ -18,7 +18,7 @@ sentences =
     ∷ (1, "a side is above 16,384")
     ∷ (2, "the pixel slice is not width x height long")
     ∷ (3, "a side is below 4: a window needs 4 by 4 pixels")
-    ∷ (4, "a work slice or the answer slice is too short")
+    ∷ (4, "a work slice, the answer slice or the slice of fields is too short")
     ∷ (5, "under 512 windows are kept: the lid is small, or too much of it is near black or white")
     ∷ (6, "no band of brightness has a variance: there is no quiet area")
     ∷ (7, "the bands that join hold under 512 windows: there is too little quiet area")

@@ -8,12 +8,12 @@ ghost use Rattle.reasons.specs.Reasons.{reasonBytes, reasonOf, numberedB
 ghost use Rattle.reasons.specs.Parts.{textOf, startsOf};
 
 // The sentences of the numbers from 0 up, one after the other.
-const SENTENCES: [u8; 940] = *b"\
+const SENTENCES: [u8; 961] = *b"\
     there is a figure\
     a side is above 16,384\
     the pixel slice is not width x height long\
     a side is below 4: a window needs 4 by 4 pixels\
-    a work slice or the answer slice is too short\
+    a work slice, the answer slice or the slice of fields is too short\
     under 512 windows are kept: the lid is small, or too much of it is near black or white\
     no band of brightness has a variance: there is no quiet area\
     the bands that join hold under 512 windows: there is too little quiet area\
@@ -37,22 +37,22 @@ const STARTS: [usize; 21] = [
     39,
     81,
     128,
-    173,
-    259,
-    319,
-    393,
-    461,
-    527,
-    562,
-    594,
-    622,
-    680,
-    753,
-    799,
-    826,
-    869,
-    903,
-    940,
+    194,
+    280,
+    340,
+    414,
+    482,
+    548,
+    583,
+    615,
+    643,
+    701,
+    774,
+    820,
+    847,
+    890,
+    924,
+    961,
 ];
 
 // Lays a number's sentence, a part of such a text, over what stands from place `at` on, and answers where it ends.

@@ -25,8 +25,8 @@ not-words b i e p = never (sym (i .1 p) ∙ e)
 
 pub marked-iff : (f : Form) (l : List ℕ) → (marked f l ≡ true) ↔ Marked f l
 marked-iff f l = (
-  λ e. (eqb-true (getD l 0 0) 0x4E (and-left _ (eqb (getD l 1 0) (f .mark)) e), eqb-true (getD l 1 0) (f .mark) (and-right (eqb (getD l 0 0) 0x4E) _ e)),
-  λ m. rw (eq-eqb (getD l 0 0) 0x4E (m .0), eq-eqb (getD l 1 0) (f .mark) (m .1)) refl,
+  λ e. (eqb-true (getD l 0 0) 0x4E (and-left _ (eqb (getD l 1 0) (f .letter)) e), eqb-true (getD l 1 0) (f .letter) (and-right (eqb (getD l 0 0) 0x4E) _ e)),
+  λ m. rw (eq-eqb (getD l 0 0) 0x4E (m .0), eq-eqb (getD l 1 0) (f .letter) (m .1)) refl,
 )
 
 -- ---- writing

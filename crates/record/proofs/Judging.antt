@@ -11,7 +11,7 @@ use Rattle.grid.specs.Grid.{Sides, totalOf}
 use Rattle.grid.specs.Needed.{firstW, secondW}
 use Rattle.grid.proofs.Memory.{sides-taken}
 use Rattle.record.specs.declared.Record.{Record}
-use Rattle.record.specs.Rule.{bandSum, thousandBits, Stored, Allowed, storedAnswer, sigmaTaken, countsTaken, allowed}
+use Rattle.record.specs.Rule.{bandSum, thousandBits, AnswerStored, Allowed, storedAnswer, sigmaTaken, countsTaken, allowed}
 
 -- ---- two tests in one
 
@@ -36,18 +36,18 @@ never e = absurd (let q : _≡_ {A = ℕ} 1 0 = ap (λ (b : Bool). cond b 1 0) e
 
 -- ---- the parts
 
-stored-is : (a : ℕ) → (storedAnswer a ≡ true) ↔ Stored a
+stored-is : (a : ℕ) → (storedAnswer a ≡ true) ↔ AnswerStored a
 unfolding storedAnswer
 stored-is a = (λ e. by (eqb a 0) (eqb a 5) (eqb a 6) (eqb a 7) refl refl refl refl e, back)
   where
-    by : (p q r s : Bool) → eqb a 0 ≡ p → eqb a 5 ≡ q → eqb a 6 ≡ r → eqb a 7 ≡ s → (p || q || r || s) ≡ true → Stored a
+    by : (p q r s : Bool) → eqb a 0 ≡ p → eqb a 5 ≡ q → eqb a 6 ≡ r → eqb a 7 ≡ s → (p || q || r || s) ≡ true → AnswerStored a
     by true q r s e f g i h = inl (eqb-true a 0 e)
     by false true r s e f g i h = inr (inl (eqb-true a 5 f))
     by false false true s e f g i h = inr (inr (inl (eqb-true a 6 g)))
     by false false false true e f g i h = inr (inr (inr (eqb-true a 7 i)))
     by false false false false e f g i h = never (sym h)
 
-    back : Stored a → (eqb a 0 || eqb a 5 || eqb a 6 || eqb a 7) ≡ true
+    back : AnswerStored a → (eqb a 0 || eqb a 5 || eqb a 6 || eqb a 7) ≡ true
     back (inl e) = rw e refl
     back (inr (inl e)) = rw e refl
     back (inr (inr (inl e))) = rw e refl

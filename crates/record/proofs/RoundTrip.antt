@@ -15,7 +15,7 @@ use Rattle.record.specs.declared.Record.{Record}
 use Rattle.record.specs.declared.Reading.{Reading}
 use Rattle.record.specs.declared.Reading.the-variants.{Given, Refused}
 use Rattle.record.specs.Layout.{bytesIn, numbersIn, widthSum, Fit}
-use Rattle.record.specs.Rule.{Stored, Allowed, allowed}
+use Rattle.record.specs.Rule.{AnswerStored, Allowed, allowed}
 use Rattle.record.specs.Records.{Form, formNF, sizeOf, fieldsOf, recordOf, bytesAs, Written, writtenAs, marked, recordIn, readAs}
 use Rattle.record.specs.RoundTrip.{Typed}
 use Rattle.record.proofs.Layouts.{length-laid, numbers-bytes, bytes-numbers, numbers-front}
@@ -26,7 +26,7 @@ use Rattle.record.proofs.Demand1.{marked-iff, write-meets, read-meets}
 
 -- ---- read after write
 
-answer-byte : (a : ℕ) → Stored a → a < 256
+answer-byte : (a : ℕ) → AnswerStored a → a < 256
 answer-byte a (inl e) = omega arith
 answer-byte a (inr (inl e)) = omega arith
 answer-byte a (inr (inr (inl e))) = omega arith
@@ -102,8 +102,8 @@ written-read l r out b e h =
 
 marked-front : (f : Form) (l after : List ℕ) → 2 ≤ length l → marked f (l ++ after) ≡ marked f l
 marked-front f l after h =
-    ap (λ (n : ℕ). eqb n 0x4E && eqb (getD (l ++ after) 1 0) (f .mark)) (List·getD-append l after 0 0 (omega arith))
-    ∙ ap (λ (n : ℕ). eqb (getD l 0 0) 0x4E && eqb n (f .mark)) (List·getD-append l after 0 1 (omega arith))
+    ap (λ (n : ℕ). eqb n 0x4E && eqb (getD (l ++ after) 1 0) (f .letter)) (List·getD-append l after 0 0 (omega arith))
+    ∙ ap (λ (n : ℕ). eqb (getD l 0 0) 0x4E && eqb n (f .letter)) (List·getD-append l after 0 1 (omega arith))
 
 -- whatever follows a slice that is long enough
 pub read-front : (f : Form) (l after : List ℕ) → sizeOf f ≤ length l → readAs f (l ++ after) ≡ readAs f l

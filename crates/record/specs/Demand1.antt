@@ -12,7 +12,7 @@ use Rattle.record.specs.Records.{Form, sizeOf, bytesAs, Written, recordI
 
 -- the first two bytes are the mark
 abbrev pub Marked : Form → List ℕ → Type 0
-Marked f l = (getD l 0 0 ≡ 0x4E) × (getD l 1 0 ≡ f .mark)
+Marked f l = (getD l 0 0 ≡ 0x4E) × (getD l 1 0 ≡ f .letter)
 
 -- a write of record r into `out`
 pub record WriteMeets (f : Form) (r : Record) (out : List ℕ) (w : Written) : Type 0 where

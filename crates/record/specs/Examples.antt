@@ -17,7 +17,18 @@ use Rattle.record.specs.declared.Reading.the-variants.{Given, Refused}
 -- a shot of 26 by 27, which has 23 × 24 = 552 windows, with this answer, sigma, first band and rail; 12 windows are in the others
 abbrev shot : ℕ → ℕ → ℕ → ℕ → Record
 shot answer sigma b0 rail =
-    record { shot = 0x0403_0201; width = 26; height = 27; answer = answer; sigma = sigma; b0 = b0; b1 = 3; b2 = 4; b3 = 5; rail = rail }
+    record {
+      shot = 0x0403_0201;
+      width = 26;
+      height = 27;
+      answer = answer;
+      sigma = sigma;
+      b0 = b0;
+      b1 = 3;
+      b2 = 4;
+      b3 = 5;
+      rail = rail;
+    }
 
 -- sigma 2, 513 + 12 windows kept
 abbrev quiet : Record
@@ -25,7 +36,8 @@ quiet = shot 0 0x4000_0000 513 27
 
 abbrev quietBytes : List ℕ
 quietBytes =
-    0x4E ∷ 0x46 ∷ 1 ∷ 2 ∷ 3 ∷ 4 ∷ 26 ∷ 0 ∷ 27 ∷ 0 ∷ 0 ∷ 0 ∷ 0 ∷ 0 ∷ 0x40 ∷ 1 ∷ 2 ∷ 0 ∷ 0 ∷ 3 ∷ 0 ∷ 0 ∷ 0 ∷ 4 ∷ 0 ∷ 0 ∷ 0 ∷ 5 ∷ 0 ∷ 0 ∷ 0 ∷ 27 ∷ 0 ∷ 0 ∷ 0 ∷ []
+    0x4E ∷ 0x46 ∷ 1 ∷ 2 ∷ 3 ∷ 4 ∷ 26 ∷ 0 ∷ 27 ∷ 0 ∷ 0 ∷ 0 ∷ 0 ∷ 0 ∷ 0x40
+    ∷ 1 ∷ 2 ∷ 0 ∷ 0 ∷ 3 ∷ 0 ∷ 0 ∷ 0 ∷ 4 ∷ 0 ∷ 0 ∷ 0 ∷ 5 ∷ 0 ∷ 0 ∷ 0 ∷ 27 ∷ 0 ∷ 0 ∷ 0 ∷ []
 
 pub thirty-five : sizeOf formNF ≡ 35
 thirty-five = refl
@@ -59,8 +71,8 @@ passes = (refl, refl, refl)
 
 -- the whole rule: a figure, 5 with as many kept; one window too few or too many, 511 kept
 pub rules : (allowed quiet ≡ true) × (allowed (shot 5 0 513 27) ≡ true) × (allowed (shot 5 0 0 540) ≡ true)
-    × (allowed (shot 0 0x4000_0000 513 26) ≡ false) × (allowed (shot 0 0x4000_0000 513 28) ≡ false) × (allowed (shot 0 0x4000_0000 499 41) ≡ false)
-    × (allowed (shot 0 0x4000_0000 500 40) ≡ true)
+    × (allowed (shot 0 0x4000_0000 513 26) ≡ false) × (allowed (shot 0 0x4000_0000 513 28) ≡ false)
+    × (allowed (shot 0 0x4000_0000 499 41) ≡ false) × (allowed (shot 0 0x4000_0000 500 40) ≡ true)
 unfolding allowed storedAnswer sigmaTaken countsTaken placesOf stepOf
 rules = (refl, refl, refl, refl, refl, refl, refl)
 
@@ -69,8 +81,8 @@ abbrev sided : ℕ → ℕ → Record
 sided w h = record { shot = 0; width = w; height = h; answer = 5; sigma = 0; b0 = 0; b1 = 0; b2 = 0; b3 = 0; rail = 1 }
 
 -- 65,540 is not cut to 4
-pub sides : (allowed (sided 4 4) ≡ true) × (allowed (sided 3 4) ≡ false) × (allowed (sided 4 3) ≡ false) × (allowed (sided 16385 4) ≡ false)
-    × (allowed (sided 4 16385) ≡ false) × (allowed (sided 65540 4) ≡ false)
+pub sides : (allowed (sided 4 4) ≡ true) × (allowed (sided 3 4) ≡ false) × (allowed (sided 4 3) ≡ false)
+    × (allowed (sided 16385 4) ≡ false) × (allowed (sided 4 16385) ≡ false) × (allowed (sided 65540 4) ≡ false)
 unfolding allowed storedAnswer sigmaTaken countsTaken placesOf stepOf
 sides = (refl, refl, refl, refl, refl, refl)
 
@@ -95,7 +107,8 @@ unfolding readAs numbersIn valueOf allowed storedAnswer sigmaTaken countsTaken p
 reads = refl
 
 -- 18, then 17 by either byte of the mark, then 19
-pub refused-reads : (readAs formNF [] ≡ Refused 18) × (readAs formNF (replicate 34 0) ≡ Refused 18) × (readAs formNF (replicate 35 0) ≡ Refused 17)
+pub refused-reads : (readAs formNF [] ≡ Refused 18) × (readAs formNF (replicate 34 0) ≡ Refused 18)
+    × (readAs formNF (replicate 35 0) ≡ Refused 17)
     × (readAs formNF (0x46 ∷ 0x4E ∷ replicate 33 0) ≡ Refused 17) × (readAs formNF (0x4E ∷ 0x47 ∷ replicate 33 0) ≡ Refused 17)
     × (readAs formNF (0x4E ∷ 0x46 ∷ replicate 33 0) ≡ Refused 19)
 unfolding readAs numbersIn valueOf allowed

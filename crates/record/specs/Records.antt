@@ -12,14 +12,14 @@ use Rattle.record.specs.declared.Reading.the-variants.{Given, Refused}
 
 -- ---- forms
 
--- the second byte of the mark, whose first is 4E, and how many bytes each field takes
+-- the second byte of the mark, whose first is 4E, and how many bytes each field of a record takes
 pub record Form : Type 0 where
-  pub mark : ℕ
+  pub letter : ℕ
   pub widths : List ℕ
 
 -- mark 4E 46, which is NF in ASCII
 abbrev pub formNF : Form
-formNF = record { mark = 0x46; widths = 4 ∷ 2 ∷ 2 ∷ 1 ∷ 4 ∷ 4 ∷ 4 ∷ 4 ∷ 4 ∷ 4 ∷ [] }
+formNF = record { letter = 0x46; widths = 4 ∷ 2 ∷ 2 ∷ 1 ∷ 4 ∷ 4 ∷ 4 ∷ 4 ∷ 4 ∷ 4 ∷ [] }
 
 abbrev pub sizeOf : Form → ℕ
 sizeOf f = 2 + widthSum (f .widths)
@@ -48,7 +48,7 @@ recordOf xs =
 -- ---- writing
 
 unfoldable pub bytesAs : Form → Record → List ℕ
-bytesAs f r = 0x4E ∷ f .mark ∷ bytesIn (f .widths) (fieldsOf r)
+bytesAs f r = 0x4E ∷ f .letter ∷ bytesIn (f .widths) (fieldsOf r)
 
 -- a number, 0 for none, and the lent bytes as they are then
 pub record Written : Type 0 where
@@ -66,7 +66,7 @@ writtenAs f r out =
 -- ---- reading
 
 abbrev pub marked : Form → List ℕ → Bool
-marked f l = eqb (getD l 0 0) 0x4E && eqb (getD l 1 0) (f .mark)
+marked f l = eqb (getD l 0 0) 0x4E && eqb (getD l 1 0) (f .letter)
 
 -- what stands behind the mark
 abbrev pub recordIn : Form → List ℕ → Record

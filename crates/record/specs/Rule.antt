@@ -20,18 +20,19 @@ thousandBits = 0x447A_0000
 -- ---- in words
 
 -- the answers that are stored
-abbrev pub Stored : ℕ → Type 0
-Stored a = (a ≡ 0) ⊎ (a ≡ 5) ⊎ (a ≡ 6) ⊎ (a ≡ 7)
+abbrev pub AnswerStored : ℕ → Type 0
+AnswerStored a = (a ≡ 0) ⊎ (a ≡ 5) ⊎ (a ≡ 6) ⊎ (a ≡ 7)
 
 pub record Allowed (r : Record) : Type 0 where
   -- 4 to 16,384
   pub sides : Sides (r .width) (r .height)
-  pub answer : Stored (r .answer)
+  pub answer : AnswerStored (r .answer)
   -- a figure: sigma from 0 to 1,000 without a minus sign, and 512 windows kept
   pub figure : r .answer ≡ 0 → (r .sigma ≤ thousandBits) × (512 ≤ bandSum r)
   pub no-figure : (r .answer ≡ 0 → ⊥) → r .sigma ≡ 0
   -- the windows kept and dropped are all those of one of the two passes
-  pub counts : (bandSum r + r .rail ≡ totalOf (r .width) (r .height) firstW) ⊎ (bandSum r + r .rail ≡ totalOf (r .width) (r .height) secondW)
+  pub counts : (bandSum r + r .rail ≡ totalOf (r .width) (r .height) firstW)
+      ⊎ (bandSum r + r .rail ≡ totalOf (r .width) (r .height) secondW)
 
 -- ---- as a test
 

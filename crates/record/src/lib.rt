@@ -210,7 +210,8 @@ pub fn fields(r: Record) -> [u64; 10]
 // Ten fields from place 2 on. All other bytes stay.
 fn put_fields(out: &mut [u8], xs: [u64; 10])
     requires { ⌜ 35 ≤ length (now out) ⌝ }
-    ensures { λ _. ⌜ now (out .exit) ≡ (take 2 (now (out .entry)) ++ bytesIn (formNF .widths) xs) ++ drop 35 (now (out .entry)) ⌝ }
+    ensures { λ _. ⌜ now (out .exit)
+        ≡ (take 2 (now (out .entry)) ++ bytesIn (formNF .widths) xs) ++ drop 35 (now (out .entry)) ⌝ }
 {
     let mut at = 2;
     let mut k = 0;
@@ -235,7 +236,8 @@ fn put(out: &mut [u8], r: Record)
 
 // Writes a record, or answers 19, then 18, and changes nothing. Bytes past 35 stay.
 pub fn write(r: Record, out: &mut [u8]) -> u32
-    ensures { λ n. ⌜ (n ≡ writtenAs formNF r (now (out .entry)) .number) × (now (out .exit) ≡ writtenAs formNF r (now (out .entry)) .bytes) ⌝ }
+    ensures { λ n. ⌜ (n ≡ writtenAs formNF r (now (out .entry)) .number)
+        × (now (out .exit) ≡ writtenAs formNF r (now (out .entry)) .bytes) ⌝ }
 {
     if !allowed(r) {
         return 19;

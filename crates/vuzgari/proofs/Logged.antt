@@ -12,19 +12,19 @@ use Rattle.answer.specs.declared.Answer.{Answer}
 use Rattle.answer.specs.Fields.{answerBytes}
 use Rattle.answer.specs.Examples.{forty}
 use Rattle.record.specs.declared.Reading.{Reading}
-use Rattle.record.specs.Rule.{Stored}
+use Rattle.record.specs.Rule.{AnswerStored}
 use Rattle.record.specs.Records.{formNF, Written, writtenAs, readAs}
 use Rattle.logging.specs.Logging.{recordFrom}
-use Rattle.logging.specs.Kept.{Kept}
+use Rattle.logging.specs.Recorded.{Recorded}
 use Rattle.logging.proofs.Answers.{ran-of}
-use Rattle.logging.proofs.Kept.{kept}
+use Rattle.logging.proofs.Recorded.{recorded}
 use Rattle.vuzgari.specs.Noise.{shortFor, noiseFor, leftBytes}
 use Rattle.vuzgari.specs.Records.{writtenFor, shownIn}
 use Rattle.vuzgari.specs.Logged.{Logged}
 use Rattle.vuzgari.proofs.Recording.{from-40, from-10}
 
--- an answer that is kept, left in a slice
-module _ (shot w h : ℕ) (a : Answer) (before : List ℕ) (k : Kept shot w h a) (stored : Stored (a .number)) where
+-- an answer with a record, left in a slice
+module _ (shot w h : ℕ) (a : Answer) (before : List ℕ) (k : Recorded shot w h a) (stored : AnswerStored (a .number)) where
   abbrev rest : List ℕ
   rest = drop 40 before
 
@@ -45,8 +45,8 @@ module _ (shot w h : ℕ) (a : Answer) (before : List ℕ) (k : Kept shot w h a)
       ≡ writtenAs formNF (recordFrom shot w h (answerBytes a ++ rest)) out .bytes
   bytes-left out = ap (λ (x : Written). x .bytes) (writes out)
 
-  by-kept : Logged shot w h a before
-  by-kept =
+  by-record : Logged shot w h a before
+  by-record =
       record {
         taken = λ out. (λ e. k .taken rest out .0 (sym (number out) ∙ e), λ l. number out ∙ k .taken rest out .1 l);
         changes = λ out l. bytes-left out ∙ k .changes rest out l;
@@ -59,7 +59,7 @@ module _ (shot w h : ℕ) (a : Answer) (before : List ℕ) (k : Kept shot w h a)
 -- the noise call from C, whatever it is lent
 pub logged : (pixels : List ℕ) → ((i : ℕ) → getD pixels i 0 ≤ 255) → (w h : ℕ) (ints : List ℤ) (floats : List Float)
     (before : List ℕ) (shot : ℕ)
-    → Stored (noiseFor pixels w h ints floats before .number) → Logged shot w h (noiseFor pixels w h ints floats before) before
+    → AnswerStored (noiseFor pixels w h ints floats before .number) → Logged shot w h (noiseFor pixels w h ints floats before) before
 logged pixels bytes w h ints floats before shot stored =
-    by-kept shot w h (noiseFor pixels w h ints floats before) before
-    (kept pixels bytes w h (shortFor w h (length ints) (length floats) (length before)) stored shot) stored
+    by-record shot w h (noiseFor pixels w h ints floats before) before
+    (recorded pixels bytes w h (shortFor w h (length ints) (length floats) (length before)) stored shot) stored

@@ -103,7 +103,7 @@ pub extern "C" fn vuzgari_record_write(
 }
 
 // Ten numbers from the front on. Those beyond stay.
-fn put_fields(fields: &mut [u64], xs: [u64; 10])
+fn show_fields(fields: &mut [u64], xs: [u64; 10])
     requires { ⌜ 10 ≤ length (now fields) ⌝ }
     ensures { λ _. ⌜ now (fields .exit) ≡ xs ++ drop 10 (now (fields .entry)) ⌝ }
 {
@@ -127,7 +127,7 @@ pub extern "C" fn vuzgari_record_read(bytes: &[u8], fields: &mut [u64]) -> u32
     }
     match record::read(bytes) {
         Reading::Given(r) => {
-            put_fields(fields, record::fields(r));
+            show_fields(fields, record::fields(r));
             0
         }
         Reading::Refused(n) => n,

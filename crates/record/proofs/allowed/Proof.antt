@@ -16,13 +16,21 @@ too-small-requires : tie.Need-too-small-requires
 too-small-requires c κs = search needs
 
 returns-2 : tie.Need-returns-2
-returns-2 c = is-small _ (sym (c .before .before .before .too-large .ensures) ∙ c .before .before .if1 .left) (sym (c .before .too-small .ensures) ∙ c .if2 .taken)
+returns-2 c =
+    let small = c .before in
+    let large = small .before .before in
+    is-small _ (sym (large .too-large .ensures) ∙ small .before .if1 .left) (sym (small .too-small .ensures) ∙ c .if2 .taken)
 
 stored-answer-requires : tie.Need-stored-answer-requires
 stored-answer-requires c κs = search needs
 
 returns-3 : tie.Need-returns-3
-returns-3 c = not-stored _ (sym (c .before .before .before .before .before .too-large .ensures) ∙ c .before .before .before .before .if1 .left) (sym (c .before .before .before .too-small .ensures) ∙ c .before .before .if2 .left) (sym (c .before .stored-answer .ensures) ∙ not-true _ (c .if3 .taken))
+returns-3 c =
+    let stored = c .before in
+    let small = stored .before .before in
+    let large = small .before .before in
+    not-stored _ (sym (large .too-large .ensures) ∙ small .before .if1 .left) (sym (small .too-small .ensures) ∙ stored .before .if2 .left)
+    (sym (stored .stored-answer .ensures) ∙ not-true _ (c .if3 .taken))
 
 band-sum-requires : tie.Need-band-sum-requires
 band-sum-requires c κs = search needs
@@ -31,7 +39,14 @@ sigma-taken-requires : tie.Need-sigma-taken-requires
 sigma-taken-requires c κs = search needs
 
 returns-4 : tie.Need-returns-4
-returns-4 c = sigma-not _ (sym (c .before .before .before .before .before .before .before .before .too-large .ensures) ∙ c .before .before .before .before .before .before .before .if1 .left) (sym (c .before .before .before .before .before .before .too-small .ensures) ∙ c .before .before .before .before .before .if2 .left) (sym (c .before .before .before .before .stored-answer .ensures) ∙ not-false _ (c .before .before .before .if3 .left)) (c .before .before .band-sum .result) (c .before .before .band-sum .ensures .0) (sym (c .before .sigma-taken .ensures) ∙ not-true _ (c .if4 .taken))
+returns-4 c =
+    let sum = c .before .before in
+    let stored = sum .before .before in
+    let small = stored .before .before in
+    let large = small .before .before in
+    sigma-not _ (sym (large .too-large .ensures) ∙ small .before .if1 .left) (sym (small .too-small .ensures) ∙ stored .before .if2 .left)
+    (sym (stored .stored-answer .ensures) ∙ not-false _ (sum .before .if3 .left)) (sum .band-sum .result) (sum .band-sum .ensures .0)
+    (sym (c .before .sigma-taken .ensures) ∙ not-true _ (c .if4 .taken))
 
 wide-requires : tie.Need-wide-requires
 wide-requires c κs = search needs
@@ -40,13 +55,24 @@ add-counts-taken : tie.Need-add-counts-taken
 add-counts-taken c = search needs
 
 counts-taken-requires : tie.Need-counts-taken-requires
-counts-taken-requires c κs = sides-are (c .before .before .before .before .before .before .before .before .before .before .args .r) (sym (c .before .before .before .before .before .before .before .before .before .too-large .ensures) ∙ c .before .before .before .before .before .before .before .before .if1 .left) (sym (c .before .before .before .before .before .before .before .too-small .ensures) ∙ c .before .before .before .before .before .before .if2 .left)
+counts-taken-requires c κs =
+    let small = c .before .before .before .before .before .before .before in
+    let large = small .before .before in
+    sides-are (large .before .args .r) (sym (large .too-large .ensures) ∙ small .before .if1 .left)
+    (sym (small .too-small .ensures) ∙ c .before .before .before .before .before .before .if2 .left)
 
 returns-5 : tie.Need-returns-5
 returns-5 c =
+    let judged = c .before .before .before in
+    let sum = judged .before in
+    let stored = sum .before .before in
+    let small = stored .before .before in
+    let large = small .before .before in
     c .counts-taken .ensures
-    ∙ by-counts _ (sym (c .before .before .before .before .before .before .before .before .before .before .too-large .ensures) ∙ c .before .before .before .before .before .before .before .before .before .if1 .left) (sym (c .before .before .before .before .before .before .before .before .too-small .ensures) ∙ c .before .before .before .before .before .before .before .if2 .left) (sym (c .before .before .before .before .before .before .stored-answer .ensures) ∙ not-false _ (c .before .before .before .before .before .if3 .left)) (c .before .before .before .before .band-sum .result) (c .before .before .before .before .band-sum .ensures .0)
-    (c .before .wide .result) (c .before .wide .ensures .0) (sym (c .before .before .before .sigma-taken .ensures) ∙ not-false _ (c .before .before .if4 .left))
+    ∙ by-counts _ (sym (large .too-large .ensures) ∙ small .before .if1 .left) (sym (small .too-small .ensures) ∙ stored .before .if2 .left)
+    (sym (stored .stored-answer .ensures) ∙ not-false _ (sum .before .if3 .left)) (sum .band-sum .result) (sum .band-sum .ensures .0)
+    (c .before .wide .result) (c .before .wide .ensures .0)
+    (sym (judged .sigma-taken .ensures) ∙ not-false _ (c .before .before .if4 .left))
 
 pub allowed-spec : {M : Type 1} → statement M
 allowed-spec =

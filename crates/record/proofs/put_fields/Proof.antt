@@ -31,10 +31,16 @@ array-read-x : tie.Need-array-read-x Inv-loop μ-loop
 array-read-x c = omega arith
 
 put-requires : tie.Need-put-requires Inv-loop μ-loop
-put-requires c κs = lay-room (c .before .before .before .loop .inv) (c .before .before .loop-test .taken) (inside (c .before .before)) (c .before .width .ensures) (c .before .before .before .before .before .pre)
+put-requires c κs =
+    let turn = c .before .before in
+    lay-room (turn .before .loop .inv) (turn .loop-test .taken) (inside turn) (c .before .width .ensures) (turn .before .before .before .pre)
 
 add-at : tie.Need-add-at Inv-loop μ-loop
-add-at c = omega (arith, lay-room (c .before .before .before .before .before .before .loop .inv) (c .before .before .before .before .before .loop-test .taken) (inside (c .before .before .before .before .before)) (c .before .before .before .before .width .ensures) (c .before .before .before .before .before .before .before .before .pre), c .before .before .before .before .before .before .loop .inv .long)
+add-at c =
+    let sized = c .before .before .before .before in
+    let turn = sized .before in
+    let inv = turn .before .loop .inv in
+    omega (arith, lay-room inv (turn .loop-test .taken) (inside turn) (sized .width .ensures) (turn .before .before .before .pre), inv .long)
 
 add-k : tie.Need-add-k Inv-loop μ-loop
 add-k c = omega arith
@@ -43,7 +49,11 @@ loop-less : tie.Need-loop-less Inv-loop μ-loop
 loop-less c = omega arith
 
 loop-again : tie.Need-loop-again Inv-loop μ-loop
-loop-again c = lay-turn (c .before .before .before .before .before .before .loop .inv) (c .before .before .before .before .before .loop-test .taken) (inside (c .before .before .before .before .before)) (c .before .before .before .before .width .ensures) (c .before .before .before .before .before .before .before .before .pre) refl (c .before .before .put .ensures)
+loop-again c =
+    let sized = c .before .before .before .before in
+    let turn = sized .before in
+    lay-turn (turn .before .loop .inv) (turn .loop-test .taken) (inside turn) (sized .width .ensures) (turn .before .before .before .pre) refl
+    (c .before .before .put .ensures)
 
 same-length : tie.Need-same-length Inv-loop μ-loop
 same-length c = c .before .loop .inv .long

@@ -47,10 +47,18 @@ get-requires-8 c κs = search needs
 
 returns : tie.Need-returns
 returns c =
-    let last = c .before .before .before .before .before .before .before .before .before in
-    same (last .get .ensures) (c .before .before .before .before .before .before .before .before .get-side .ensures) (c .before .before .before .before .before .before .before .get-side2 .ensures) (c .before .before .before .before .before .before .get2 .ensures) (c .before .before .before .before .before .get3 .ensures)
-    (c .before .before .before .before .get4 .ensures) (c .before .before .before .get5 .ensures) (c .before .before .get6 .ensures) (c .before .get7 .ensures) (c .get8 .ensures)
-    ∙ ap recordOf (numbers-at (formNF .widths) 2 (last .before .before .args .bytes .now) (last .before .before .pre))
+    let b3 = c .before in
+    let b2 = b3 .before in
+    let b1 = b2 .before in
+    let b0 = b1 .before in
+    let sigma = b0 .before in
+    let answer = sigma .before in
+    let height = answer .before in
+    let width = height .before in
+    let shot = width .before in
+    same (shot .get .ensures) (width .get-side .ensures) (height .get-side2 .ensures) (answer .get2 .ensures) (sigma .get3 .ensures)
+    (b0 .get4 .ensures) (b1 .get5 .ensures) (b2 .get6 .ensures) (b3 .get7 .ensures) (c .get8 .ensures)
+    ∙ ap recordOf (numbers-at (formNF .widths) 2 (shot .before .before .args .bytes .now) (shot .before .before .pre))
 
 pub record-in-spec : {M : Type 1} → statement M
 record-in-spec =

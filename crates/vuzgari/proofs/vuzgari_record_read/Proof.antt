@@ -21,8 +21,8 @@ enum-known-r c = search needs
 fields-requires : tie.Need-fields-requires
 fields-requires c κs = search needs
 
-put-fields-requires : tie.Need-put-fields-requires
-put-fields-requires c κs = search needs
+show-fields-requires : tie.Need-show-fields-requires
+show-fields-requires c κs = search needs
 
 enum-known-n : tie.Need-enum-known-n
 enum-known-n c = search needs
@@ -37,7 +37,7 @@ returns-2 c =
     let e = r .before .before .before in
     let a = e .before .before .before .args in
     shows-record (now (a .bytes)) (now (a .fields)) (e .if1 .left) (r .before .before .read .ensures) (r .r .given .1)
-    (c .before .before .put-fields .ensures ∙ ap (λ (l : List ℕ). l ++ drop 10 (now (a .fields))) (f .fields .ensures))
+    (c .before .before .show-fields .ensures ∙ ap (λ (l : List ℕ). l ++ drop 10 (now (a .fields))) (f .fields .ensures))
 
 returns-3 : tie.Need-returns-3
 returns-3 c =
@@ -52,7 +52,7 @@ vuzgari-record-read-spec =
     read-requires
     enum-known-r
     fields-requires
-    put-fields-requires
+    show-fields-requires
     enum-known-n
     same-length
     returns-2

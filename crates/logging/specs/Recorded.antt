@@ -12,7 +12,7 @@ use Rattle.record.specs.Records.{formNF, sizeOf, bytesAs, writtenAs, readAs}
 use Rattle.logging.specs.Logging.{recordOfAnswer, recordFrom}
 
 -- of a shot and an answer a to an image of w by h
-pub record Kept (shot w h : ℕ) (a : Answer) : Type 0 where
+pub record Recorded (shot w h : ℕ) (a : Answer) : Type 0 where
   -- its record keeps the rule
   pub allowed : Allowed (recordOfAnswer shot w h a)
   -- the answer's 40 bytes give the same record, whatever stands beyond them

@@ -12,7 +12,7 @@ use Rattle.little_endian.proofs.Laws.{value-bytes}
 use Rattle.answer.specs.declared.Answer.{Answer}
 use Rattle.answer.specs.Fields.{bytesOfWords, answerBytes}
 use Rattle.noise.specs.Call.{noiseOf}
-use Rattle.record.specs.Rule.{Stored, Allowed}
+use Rattle.record.specs.Rule.{AnswerStored, Allowed}
 use Rattle.record.specs.Records.{formNF, sizeOf, writtenAs, readAs}
 use Rattle.record.specs.declared.Record.{Record}
 use Rattle.record.specs.Demand1.{WriteMeets}
@@ -20,7 +20,7 @@ use Rattle.record.specs.RoundTrip.{Typed}
 use Rattle.record.proofs.Demand1.{write-meets}
 use Rattle.record.proofs.RoundTrip.{read-written}
 use Rattle.logging.specs.Logging.{recordOfAnswer, recordFrom}
-use Rattle.logging.specs.Kept.{Kept}
+use Rattle.logging.specs.Recorded.{Recorded}
 use Rattle.logging.proofs.Answers.{keeps-rule, number-fits, sigma-fits, counts-fit}
 
 -- the bytes of an answer at the places of what a record keeps
@@ -34,7 +34,7 @@ unfolding bytesOfWords bytesOf
 places a rest = (refl, refl, refl, refl, refl, refl, refl)
 
 module _ (img : List ℕ) (bytes : (i : ℕ) → getD img i 0 ≤ 255) (w h : ℕ) (short : Bool)
-    (stored : Stored (noiseOf img w h short .number)) (shot : ℕ) where
+    (stored : AnswerStored (noiseOf img w h short .number)) (shot : ℕ) where
   abbrev a : Answer
   a = noiseOf img w h short
 
@@ -55,8 +55,8 @@ module _ (img : List ℕ) (bytes : (i : ℕ) → getD img i 0 ≤ 255) (w h : �
         rail = (ap valueOf (p .6) ∙ value-bytes 4 (a .rail) (f .4)) i;
       }
 
-  pub kept : Kept shot w h a
-  kept =
+  pub recorded : Recorded shot w h a
+  recorded =
       record {
         allowed = rule;
         same = same;

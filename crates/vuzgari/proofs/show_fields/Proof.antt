@@ -1,4 +1,4 @@
--- `put_fields` meets its contract: each turn stores one number behind those before.
+-- `show_fields` meets its contract: each turn stores one number behind those before.
 use mathlib.Core.Path.{refl, ap, _∙_}
 use mathlib.Core.List.{List, _++_}
 use Prim.Native.Nat.{ℕ, _-_}
@@ -7,8 +7,8 @@ use denote.Ref.{now}
 use lib.ListN.{getD, drop}
 use Rattle.laws.proofs.Fill.{Front, front-start, front-put, front-end}
 use Rattle.vuzgari.proofs.Recording.{all-ten}
-use Rattle.vuzgari.proofs.put_fields.Statement.{statement}
-use Rattle.vuzgari.proofs.put_fields.Tie as tie
+use Rattle.vuzgari.proofs.show_fields.Statement.{statement}
+use Rattle.vuzgari.proofs.show_fields.Tie as tie
 
 abbrev Inv-loop : tie.InvT-loop
 Inv-loop fields₀ xs k₀ fields k = Front (λ i. getD xs i 0) fields₀ 10 k fields
@@ -49,8 +49,8 @@ returns c =
     front-end (c .before .loop .inv) (c .loop-test .left)
     ∙ ap (λ (l : List ℕ). l ++ drop 10 (now (s .args .fields))) (all-ten (s .args .t2) (s .good .1 .0 .1 .0 .1))
 
-pub put-fields-spec : {M : Type 1} → statement M
-put-fields-spec =
+pub show-fields-spec : {M : Type 1} → statement M
+show-fields-spec =
     tie.close
     (tie.spec
     Inv-loop
