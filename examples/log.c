@@ -45,13 +45,13 @@ static void refuse(uint32_t shot, uint32_t number)
     exit(1);
 }
 
-/* A lid without a figure has a record too, 5 to 7; after 1 to 4 there is no answer to keep. */
+/* A lid without a figure has a record too (5, 6, 7); after any other number there is no answer to keep. */
 static void append(FILE *log, const char *path, uint32_t shot, const uint8_t *pixels)
 {
     uint8_t bytes[VUZGARI_ANSWER_BYTES];
     uint8_t record[VUZGARI_RECORD_BYTES];
     uint32_t number = measure(pixels, WIDTH, HEIGHT, bytes);
-    if (number >= VUZGARI_SIDE_ABOVE && number <= VUZGARI_SHORT_SLICE) {
+    if (number != VUZGARI_GIVEN && number != VUZGARI_FEW && number != VUZGARI_NONE && number != VUZGARI_THIN) {
         refuse(shot, number);
     }
     number = vuzgari_record_write(shot, WIDTH, HEIGHT, bytes, sizeof bytes, record, sizeof record);

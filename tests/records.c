@@ -55,7 +55,7 @@ static const struct named taken[] = {
     {"another milli, rounds and passes", {1, 26, 26, {0, 0x3F800000, 0x80000000, 529, 0, 0, 0, 0, 0x100, 0}}},
 };
 
-/* Each breaks one part of the rule. A side of 3 has no window; of 16,385 it would have those of 16,384; 65,540 and
+/* Each but the answer of zeros breaks one part of the rule. A side of 3 has no window; of 16,385 it would have those of 16,384; 65,540 and
    2^32 + 4 would be 4 if they were cut, and 4 by 1,024 has 1,021. */
 static const struct named broken[] = {
     {"3 columns", {1, 3, 4, {5}}},

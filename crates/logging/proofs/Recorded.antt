@@ -1,4 +1,4 @@
--- Every answer of the noise call with 0, 5, 6 or 7 is kept: its bytes hold its fields, and the writer takes its record.
+-- Every answer of the noise call with 0, 5, 6 or 7 has a record: its bytes hold its fields, and the writer takes its record.
 use mathlib.Core.Path.{_≡_, refl, sym, ap, _∙_, subst}
 use mathlib.Core.Bool.{Bool}
 use mathlib.Core.Logic.{_↔_}

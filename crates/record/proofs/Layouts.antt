@@ -43,7 +43,7 @@ bytes-numbers (n ∷ ns) l b h =
     ∙ ap (λ (k : List ℕ). take n l ++ k) (bytes-numbers ns (drop n l) (each-drop (λ b. b < 256) n l b) (omega (arith, length-drop n l)))
     ∙ sym (take-add n (widthSum ns) l)
 
--- what is numbersIn fits
+-- what numbersIn gives fits
 pub numbers-fit : (ns l : List ℕ) → Bytes l → widthSum ns ≤ length l → Fit ns (numbersIn ns l)
 unfolding numbersIn Fit
 numbers-fit [] l b h = tt

@@ -1,4 +1,4 @@
--- What the noise call answers with 0, 5, 6 or 7 goes into the log: it leaves the answer's 40 bytes in front, and those are kept.
+-- What the noise call answers with 0, 5, 6 or 7 goes into the log: it leaves the answer's 40 bytes in front, and those give its record.
 -- Assumes that pixels are 0 to 255.
 use mathlib.Core.Path.{_≡_, sym, ap, _∙_}
 use mathlib.Core.Bool.{Bool, cond}
