@@ -10,7 +10,7 @@ use lib.Ieee.{Float, nan, inf, fin, binary32, up, down, eq, fits, units, size}
 use lib.Ieee.Fits.{down-pos}
 use lib.Ieee.Exact.{HasValue}
 use borrow.Author.Tests.{eqb-true}
-use Rattle.refine.proofs.Refusing.{and-left, and-right}
+use Rattle.laws.proofs.Refusing.{and-left, and-right}
 use Rattle.ieee.specs.Sqrt.{sqrt}
 use Rattle.ieee.proofs.Grid.{same-value}
 

@@ -16,7 +16,7 @@ use Rattle.refine.specs.Covariance.{zeros, allFinite, number, figures}
 use Rattle.refine.specs.declared.PositionCovariance.{PositionCovariance}
 use Rattle.refine.specs.declared.Judged.{Judged}
 use Rattle.refine.specs.declared.Judged.the-variants.{Covariance, Refused}
-use Rattle.refine.proofs.Refusing.{Says, plainly, unless, above, its-own, otherwise, another, neither}
+use Rattle.laws.proofs.Refusing.{Says, plainly, unless, above, its-own, otherwise, another, neither}
 use Rattle.support.specs.Support.{afterState, stateNumber}
 use Rattle.gradients.specs.declared.PixelGradients.{PixelGradients}
 use Rattle.gradients.specs.Gradients.{handed, clearedState, resetOf, inSupport, cell, bothFinite, addNumber, added, addOf, supportGram, covarianceOf}

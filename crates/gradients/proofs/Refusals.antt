@@ -7,7 +7,7 @@ use native.Mathlib.Omega.{arith}
 use lib.IntN.{ℤ}
 use lib.Ieee.{Float}
 use borrow.Author.Tests.{ne-eqb}
-use Rattle.refine.proofs.Refusing.{stands, follows}
+use Rattle.laws.proofs.Refusing.{stands, follows}
 use Rattle.refine.specs.Covariance.{judged}
 use Rattle.refine.specs.declared.Judged.the-variants.{Refused}
 use Rattle.gradients.specs.declared.PixelGradients.{PixelGradients}

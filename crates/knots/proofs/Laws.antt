@@ -7,7 +7,7 @@ use native.Mathlib.Numerals.{add-one}
 use native.Mathlib.Omega.{arith}
 use lib.Ieee.{Float, le}
 use Rattle.ieee.specs.Order.{finite}
-use Rattle.refine.proofs.Refusing.{and}
+use Rattle.laws.proofs.Refusing.{and}
 use Rattle.ranges.specs.Arith.{_⊖_, _⊘_, at}
 use Rattle.ranges.proofs.Bounds.{never}
 use Rattle.knots.specs.declared.Width.{Width}

@@ -12,7 +12,7 @@ use Rattle.ieee.specs.Order.{finite}
 use Rattle.knots.specs.declared.Width.{Width}
 use Rattle.knots.specs.declared.Width.the-variants.{Known, Unknown}
 use Rattle.knots.specs.declared.Place.the-variants.{Knot, Between}
-use Rattle.refine.proofs.Refusing.{and, and-right}
+use Rattle.laws.proofs.Refusing.{and, and-right}
 use Rattle.ranges.specs.Arith.{_⊖_, _⊘_, at}
 use Rattle.ranges.specs.Ranges.{within}
 use Rattle.ranges.proofs.Negations.{not-le}

@@ -1,7 +1,7 @@
 -- What an answer with 0, 5, 6 or 7 has: it comes of a call that nothing refused, its record keeps the rule, and each of its
 -- fields fits into four bytes.
 use mathlib.Core.Path.{_≡_, refl, sym, ap, _∙_, subst}
-use mathlib.Core.Bool.{Bool, true, false, cond}
+use mathlib.Core.Bool.{Bool, true, false, cond, true≢false}
 use mathlib.Core.Logic.{_⊎_, inl, inr}
 use mathlib.Core.List.{List}
 use Prim.Native.Nat.{ℕ, _^_, _≤_, _<_}
@@ -10,7 +10,6 @@ use native.Mathlib.Nat.{le-trans}
 use lib.Dec.{eqb}
 use lib.ListN.{length, getD}
 use lib.Ieee.{binary32, toBits, ofBits}
-use borrow.Author.Tests.{eqb-true}
 use Rattle.laws.proofs.Choice.{cond-both}
 use Rattle.ieee.proofs.Naturals.{le-or-lt}
 use Rattle.ieee.specs.Numbers.{plusZero}
@@ -36,27 +35,11 @@ pub stored-ran : (n : ℕ) → storedAnswer n ≡ ran n
 unfolding storedAnswer
 stored-ran n = refl
 
-never : true ≡ false → ⊥
-never e = let q : _≡_ {A = ℕ} 1 0 = ap (λ (b : Bool). cond b 1 0) e in omega arith
-
 pub ran-of : (n : ℕ) → AnswerStored n → ran n ≡ true
 ran-of n (inl e) = ap ran e
 ran-of n (inr (inl e)) = ap ran e
 ran-of n (inr (inr (inl e))) = ap ran e
 ran-of n (inr (inr (inr e))) = ap ran e
-
-pub stored-of : (n : ℕ) → ran n ≡ true → AnswerStored n
-stored-of n h = by-case (eqb n 0) (eqb n 5) (eqb n 6) (eqb n 7) refl refl refl refl
-  where
-    none : eqb n 0 ≡ false → eqb n 5 ≡ false → eqb n 6 ≡ false → eqb n 7 ≡ false → ran n ≡ false
-    none p q r s = rw (p, q, r, s)
-
-    by-case : (a b c d : Bool) → eqb n 0 ≡ a → eqb n 5 ≡ b → eqb n 6 ≡ c → eqb n 7 ≡ d → AnswerStored n
-    by-case true b c d p q r s = inl (eqb-true n 0 p)
-    by-case false true c d p q r s = inr (inl (eqb-true n 5 q))
-    by-case false false true d p q r s = inr (inr (inl (eqb-true n 6 r)))
-    by-case false false false true p q r s = inr (inr (inr (eqb-true n 7 s)))
-    by-case false false false false p q r s = absurd (never (sym h ∙ none p q r s))
 
 -- ---- an answer with such a number
 
@@ -77,7 +60,7 @@ module _ (img : List ℕ) (bytes : (i : ℕ) → getD img i 0 ≤ 255) (w h : �
     | inr k ↦ omega arith
     | inl k ↦
         let no : refusal ≡ 0 → ⊥ = λ z. omega arith in
-        absurd (never (sym (ran-of (a .number) stored) ∙ ap (λ (x : Answer). ran (x .number)) (noise-refused img w h short no)
+        absurd (true≢false (sym (ran-of (a .number) stored) ∙ ap (λ (x : Answer). ran (x .number)) (noise-refused img w h short no)
         ∙ ran-not refusal no (Causes.refusal-most (length img) w h short)))
   ]
 

@@ -3,7 +3,6 @@ use mathlib.Core.Path.{_≡_, refl}
 use mathlib.Core.List.{List, [], _∷_}
 use Prim.Native.Nat.{ℕ}
 use Rattle.little_endian.specs.Bytes.{valueOf}
-use Rattle.record.specs.declared.Record.{Record}
 use Rattle.logging.specs.Logging.{recordFrom}
 
 abbrev answer : List ℕ

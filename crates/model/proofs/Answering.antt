@@ -13,7 +13,7 @@ use Rattle.ieee.specs.Numbers.{plusZero}
 use Rattle.refine.specs.Numbers.{OneOf}
 use Rattle.refine.specs.Covariance.{allFinite}
 use Rattle.refine.specs.declared.PositionCovariance.{PositionCovariance}
-use Rattle.refine.proofs.Refusing.{unless, its-own, otherwise, another, neither}
+use Rattle.laws.proofs.Refusing.{unless, its-own, otherwise, another, neither}
 use Rattle.knots.specs.declared.Width.{Width}
 use Rattle.model.specs.declared.SystematicModel.{SystematicModel}
 use Rattle.model.specs.declared.At.{At}

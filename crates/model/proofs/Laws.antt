@@ -10,7 +10,7 @@ use lib.Ieee.{Float, lt, ofInt, round}
 use borrow.Author.Tests.{eqb-true}
 use Rattle.refine.specs.Covariance.{allFinite}
 use Rattle.refine.specs.declared.PositionCovariance.{PositionCovariance}
-use Rattle.refine.proofs.Refusing.{and}
+use Rattle.laws.proofs.Refusing.{and}
 use Rattle.ranges.specs.Arith.{at, one, twelfth}
 use Rattle.ranges.specs.Ranges.{within, upTo}
 use Rattle.knots.specs.declared.Width.{Width}

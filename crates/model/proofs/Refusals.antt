@@ -9,7 +9,7 @@ use lib.Ieee.{Float}
 use borrow.Author.Tests.{lt-ltb, le-leb, lt-leb, ltb-true, leb-true}
 use Rattle.refine.specs.Covariance.{allFinite}
 use Rattle.refine.specs.declared.PositionCovariance.{PositionCovariance}
-use Rattle.refine.proofs.Refusing.{and, and-left, and-right, stands, follows}
+use Rattle.laws.proofs.Refusing.{and, and-left, and-right, stands, follows}
 use Rattle.ranges.specs.Ranges.{upTo}
 use Rattle.knots.specs.declared.Width.{Width}
 use Rattle.knots.specs.Places.{every, risesAt, knotAt}

@@ -1,27 +1,28 @@
 -- Demand 1 for records: both calls, of any form.
 use mathlib.Core.Path.{_≡_, refl, sym, ap, _∙_, subst}
-use mathlib.Core.Bool.{Bool, true, false, _&&_}
+use mathlib.Core.Bool.{Bool, true, false, true≢false}
 use mathlib.Core.Logic.{_↔_, _⊎_, inl, inr}
-use mathlib.Core.List.{List, _++_}
+use mathlib.Core.List.{List}
 use Prim.Native.Nat.{ℕ, _≤_, _<_}
 use native.Mathlib.Omega.{arith}
 use lib.Dec.{eqb}
-use lib.ListN.{length, getD, drop}
+use lib.ListN.{length, getD}
 use borrow.Author.Tests.{eq-eqb, eqb-true}
+use Rattle.laws.proofs.Refusing.{and-left, and-right}
 use Rattle.ieee.proofs.Naturals.{le-or-lt}
 use Rattle.record.specs.declared.Record.{Record}
 use Rattle.record.specs.declared.Reading.{Reading}
 use Rattle.record.specs.declared.Reading.the-variants.{Given, Refused}
 use Rattle.record.specs.Rule.{Allowed, allowed}
-use Rattle.record.specs.Records.{Form, sizeOf, bytesAs, Written, writtenAs, marked, recordIn, readAs}
+use Rattle.record.specs.Records.{Form, sizeOf, Written, writtenAs, marked, recordIn, readAs}
 use Rattle.record.specs.Demand1.{Marked, WriteMeets, ReadMeets}
-use Rattle.record.proofs.Judging.{and-left, and-right, never, allowed-iff}
+use Rattle.record.proofs.Judging.{allowed-iff}
 use Rattle.record.proofs.Readings.{short, foreign, broken, given}
 use Rattle.record.proofs.Writing.{refused, no-room, done}
 
 -- a test that fails, in words
 pub not-words : {P : Type 0} (b : Bool) → (b ≡ true) ↔ P → b ≡ false → P → ⊥
-not-words b i e p = never (sym (i .1 p) ∙ e)
+not-words b i e p = true≢false (sym (i .1 p) ∙ e)
 
 pub marked-iff : (f : Form) (l : List ℕ) → (marked f l ≡ true) ↔ Marked f l
 marked-iff f l = (

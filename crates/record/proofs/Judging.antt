@@ -1,38 +1,17 @@
 -- The rule as a test is the rule in words, and each of its parts decides alone where it fails.
 use mathlib.Core.Path.{_≡_, refl, sym, ap, _∙_}
-use mathlib.Core.Bool.{Bool, true, false, cond, not, _&&_, _||_}
+use mathlib.Core.Bool.{Bool, true, false, cond, not, _&&_, _||_, true≢false, false≢true}
 use mathlib.Core.Logic.{_↔_, _⊎_, inl, inr}
 use Prim.Native.Nat.{ℕ, _+_, _≤_}
-use native.Mathlib.Omega.{arith}
 use lib.Dec.{leb, eqb}
-use borrow.Author.Tests.{leb-true, le-leb, eq-eqb, ne-eqb, eqb-true, eqb-false}
+use borrow.Author.Tests.{not-true, leb-true, le-leb, eq-eqb, eqb-true}
+use Rattle.laws.proofs.Refusing.{and, and-left, and-right}
 use Rattle.limits.specs.Limits.{tooLarge, tooSmall}
 use Rattle.grid.specs.Grid.{Sides, totalOf}
 use Rattle.grid.specs.Needed.{firstW, secondW}
 use Rattle.grid.proofs.Memory.{sides-taken}
 use Rattle.record.specs.declared.Record.{Record}
 use Rattle.record.specs.Rule.{bandSum, thousandBits, AnswerStored, Allowed, storedAnswer, sigmaTaken, countsTaken, allowed}
-
--- ---- two tests in one
-
-pub and-left : (p q : Bool) → (p && q) ≡ true → p ≡ true
-and-left true q e = refl
-and-left false q e = e
-
-pub and-right : (p q : Bool) → (p && q) ≡ true → q ≡ true
-and-right true q e = e
-and-right false true e = refl
-and-right false false e = e
-
-both : (p q : Bool) → p ≡ true → q ≡ true → (p && q) ≡ true
-both p q e f = rw (e, f) refl
-
-not-is : (p : Bool) → not p ≡ true → p ≡ false
-not-is true e = sym e
-not-is false e = refl
-
-pub never : {P : Type 0} → true ≡ false → P
-never e = absurd (let q : _≡_ {A = ℕ} 1 0 = ap (λ (b : Bool). cond b 1 0) e in omega arith)
 
 -- ---- the parts
 
@@ -45,7 +24,7 @@ stored-is a = (λ e. by (eqb a 0) (eqb a 5) (eqb a 6) (eqb a 7) refl refl refl r
     by false true r s e f g i h = inr (inl (eqb-true a 5 f))
     by false false true s e f g i h = inr (inr (inl (eqb-true a 6 g)))
     by false false false true e f g i h = inr (inr (inr (eqb-true a 7 i)))
-    by false false false false e f g i h = never (sym h)
+    by false false false false e f g i h = absurd (false≢true h)
 
     back : AnswerStored a → (eqb a 0 || eqb a 5 || eqb a 6 || eqb a 7) ≡ true
     back (inl e) = rw e refl
@@ -66,11 +45,11 @@ sigma-is a bits kept = (λ e. there (eqb a 0) refl e, λ s. back s (eqb a 0) ref
       λ _. (leb-true bits thousandBits (and-left _ (leb 512 kept) e), leb-true 512 kept (and-right (leb bits thousandBits) _ e)),
       λ n. absurd (n (eqb-true a 0 q)),
     )
-    there false q e = (λ z. never (sym (eq-eqb a 0 z) ∙ q), λ _. eqb-true bits 0 e)
+    there false q e = (λ z. absurd (true≢false (sym (eq-eqb a 0 z) ∙ q)), λ _. eqb-true bits 0 e)
 
     back : SigmaIs a bits kept → (b : Bool) → eqb a 0 ≡ b → cond b (leb bits thousandBits && leb 512 kept) (eqb bits 0) ≡ true
-    back s true q = let k = s .0 (eqb-true a 0 q) in both (leb bits thousandBits) (leb 512 kept) (le-leb bits thousandBits (k .0)) (le-leb 512 kept (k .1))
-    back s false q = eq-eqb bits 0 (s .1 (λ z. never (sym (eq-eqb a 0 z) ∙ q)))
+    back s true q = let k = s .0 (eqb-true a 0 q) in and (le-leb bits thousandBits (k .0)) (le-leb 512 kept (k .1))
+    back s false q = eq-eqb bits 0 (s .1 (λ z. absurd (true≢false (sym (eq-eqb a 0 z) ∙ q))))
 
 -- n is T of one of the two passes
 abbrev CountsAre : ℕ → ℕ → ℕ → Type 0
@@ -82,7 +61,7 @@ one-of-two n a b = (λ e. there (eqb n a) (eqb n b) refl refl e, back)
     there : (p q : Bool) → eqb n a ≡ p → eqb n b ≡ q → (p || q) ≡ true → (n ≡ a) ⊎ (n ≡ b)
     there true q e f h = inl (eqb-true n a e)
     there false true e f h = inr (eqb-true n b f)
-    there false false e f h = never (sym h)
+    there false false e f h = absurd (false≢true h)
 
     back : (n ≡ a) ⊎ (n ≡ b) → (eqb n a || eqb n b) ≡ true
     back (inl e) = rw (eq-eqb n a e) refl
@@ -121,7 +100,7 @@ allowed-iff r = (there, back)
         let c = and-right (storedAnswer (r .answer)) _ b in
         let s = sigma-is (r .answer) (r .sigma) (bandSum r) .0 (and-left sigma counts c) in
         record {
-          sides = sides-taken (r .width) (r .height) .1 (not-is large (and-left (not large) _ e), not-is small (and-left (not small) _ a));
+          sides = sides-taken (r .width) (r .height) .1 (not-true large (and-left (not large) _ e), not-true small (and-left (not small) _ a));
           answer = stored-is (r .answer) .0 (and-left (storedAnswer (r .answer)) _ b);
           figure = s .0;
           no-figure = s .1;

@@ -1,9 +1,9 @@
 -- Numbers laid out in widths and read from them again: each undoes the other.
 use mathlib.Core.Path.{_≡_, refl, sym, ap, _∙_, subst}
 use mathlib.Core.List.{List, [], _∷_, _++_, append-assoc}
-use Prim.Native.Nat.{ℕ, zero, suc, _+_, _-_, _^_, _≤_, _<_}
+use Prim.Native.Nat.{ℕ, _+_, _-_, _^_, _≤_, _<_}
 use native.Mathlib.Omega.{arith}
-use lib.ListN.{length, getD, take, drop, length-append, length-take, length-drop, take-append-drop}
+use lib.ListN.{length, take, drop, length-append, length-drop}
 use lib.Seq.{slice, take-at, drop-at, take-add, length-take-le, take-append-le, drop-append-le, drop-drop}
 use Rattle.laws.proofs.Each.{each-take, each-drop}
 use Rattle.little_endian.specs.Bytes.{bytesOf, valueOf, Bytes}

@@ -1,12 +1,12 @@
 -- A loop that lays numbers in their widths one after the other, from place 2 on, and has laid k of them, up to place `at`.
 use mathlib.Core.Path.{_≡_, refl, sym, ap, _∙_, subst}
 use mathlib.Core.List.{List, [], _∷_, _++_}
-use Prim.Native.Nat.{ℕ, zero, suc, _+_, _≤_, _<_}
+use Prim.Native.Nat.{ℕ, _+_, _≤_, _<_}
 use native.Mathlib.Numerals.{add-one}
 use native.Mathlib.Omega.{arith}
 use lib.ListN.{length, getD, take, drop, set, length-set, drop-of-length-le}
 use lib.Seq.{drop-cons}
-use Rattle.laws.proofs.Fill.{Writing, start, put, put-many, end}
+use Rattle.laws.proofs.Fill.{Writing, start, put-many, end}
 use Rattle.laws.specs.Lists.{laid}
 use Rattle.little_endian.specs.Bytes.{bytesOf}
 use Rattle.little_endian.proofs.Laws.{length-bytes}

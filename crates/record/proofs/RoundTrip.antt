@@ -1,11 +1,11 @@
 -- Reading what was written gives the record, writing what was read gives the bytes, and bytes past a record are not read.
 use mathlib.Core.Path.{_≡_, refl, sym, ap, _∙_}
-use mathlib.Core.Bool.{Bool, true, false, _&&_}
-use mathlib.Core.Logic.{_⊎_, inl, inr}
+use mathlib.Core.Bool.{true, _&&_}
+use mathlib.Core.Logic.{inl, inr}
 use mathlib.Core.List.{List, [], _∷_, _++_}
 use Prim.Native.Nat.{ℕ, _+_, _≤_, _<_}
 use native.Mathlib.Omega.{arith}
-use lib.Dec.{ltb, eqb}
+use lib.Dec.{eqb}
 use lib.ListN.{length, getD, take, drop, length-append, length-drop, List·getD-append}
 use lib.Seq.{take-add, drop-append-le}
 use borrow.Author.Tests.{le-ltb}
@@ -13,16 +13,15 @@ use Rattle.laws.proofs.Each.{each-drop}
 use Rattle.little_endian.specs.Bytes.{Bytes}
 use Rattle.record.specs.declared.Record.{Record}
 use Rattle.record.specs.declared.Reading.{Reading}
-use Rattle.record.specs.declared.Reading.the-variants.{Given, Refused}
-use Rattle.record.specs.Layout.{bytesIn, numbersIn, widthSum, Fit}
+use Rattle.record.specs.declared.Reading.the-variants.{Given}
+use Rattle.record.specs.Layout.{bytesIn, numbersIn, Fit}
 use Rattle.record.specs.Rule.{AnswerStored, Allowed, allowed}
-use Rattle.record.specs.Records.{Form, formNF, sizeOf, fieldsOf, recordOf, bytesAs, Written, writtenAs, marked, recordIn, readAs}
+use Rattle.record.specs.Records.{Form, formNF, sizeOf, fieldsOf, recordOf, bytesAs, Written, writtenAs, marked, readAs}
 use Rattle.record.specs.RoundTrip.{Typed}
 use Rattle.record.proofs.Layouts.{length-laid, numbers-bytes, bytes-numbers, numbers-front}
 use Rattle.record.proofs.Judging.{allowed-iff}
 use Rattle.record.proofs.Readings.{given}
-use Rattle.record.proofs.Writing.{done}
-use Rattle.record.proofs.Demand1.{marked-iff, write-meets, read-meets}
+use Rattle.record.proofs.Demand1.{write-meets, read-meets}
 
 -- ---- read after write
 

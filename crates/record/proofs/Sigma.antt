@@ -1,7 +1,7 @@
 -- The rule's bound on sigma's bits says what the paper says of sigma: of all 32-bit patterns, those up to the pattern of 1,000
 -- are the floats from 0 to 1,000 without a minus sign (`sigma-bits`). For sizes rise with patterns, and past them come the NaNs
 -- and the minus sign.
-use mathlib.Core.Path.{_≡_, refl, sym, ap, _∙_, subst}
+use mathlib.Core.Path.{_≡_, refl, sym, ap, _∙_}
 use mathlib.Core.Logic.{_↔_, inl, inr}
 use mathlib.Core.Bool.{Bool, true, false, not, _&&_, _||_, true≢false}
 use Prim.Native.Nat.{ℕ, zero, suc, _+_, _*_, _/_, _%_, _^_, _≤_, _<_}

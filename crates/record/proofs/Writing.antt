@@ -1,13 +1,13 @@
 -- What a write leaves, by the tests that lead there.
 use mathlib.Core.Path.{_≡_, refl}
-use mathlib.Core.Bool.{Bool, true, false, cond}
+use mathlib.Core.Bool.{true, false}
 use mathlib.Core.List.{List, _++_}
 use Prim.Native.Nat.{ℕ, _≤_, _<_}
 use lib.ListN.{length, drop}
 use borrow.Author.Tests.{lt-ltb, le-ltb}
 use Rattle.record.specs.declared.Record.{Record}
 use Rattle.record.specs.Rule.{allowed}
-use Rattle.record.specs.Records.{Form, sizeOf, bytesAs, Written, writtenAs}
+use Rattle.record.specs.Records.{Form, sizeOf, bytesAs, writtenAs}
 
 module _ (f : Form) (r : Record) (out : List ℕ) where
   -- a number and bytes that are those of the write

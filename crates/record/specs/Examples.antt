@@ -9,9 +9,8 @@ use Rattle.grid.specs.Step.{stepOf}
 use Rattle.grid.specs.Grid.{placesOf}
 use Rattle.record.specs.Layout.{bytesIn, numbersIn}
 use Rattle.record.specs.Rule.{storedAnswer, sigmaTaken, countsTaken, allowed}
-use Rattle.record.specs.Records.{formNF, sizeOf, bytesAs, Written, writtenAs, readAs}
+use Rattle.record.specs.Records.{formNF, sizeOf, bytesAs, writtenAs, readAs}
 use Rattle.record.specs.declared.Record.{Record}
-use Rattle.record.specs.declared.Reading.{Reading}
 use Rattle.record.specs.declared.Reading.the-variants.{Given, Refused}
 
 -- a shot of 26 by 27, which has 23 × 24 = 552 windows, with this answer, sigma, first band and rail; 12 windows are in the others

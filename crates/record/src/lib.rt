@@ -78,13 +78,7 @@ fn counts_taken(w: usize, h: usize, n: u64) -> bool
 fn band_sum(r: Record) -> u64
     ensures { λ n. ⌜ (n ≡ bandSum r) × (n < 2 ^ 34) ⌝ }
 {
-    wide(r.b0) + wide(r.b1) + wide(r.b2) + wide(r.b3)
-}
-
-fn wide(x: u32) -> u64
-    ensures { λ r. ⌜ (r ≡ x) × (r < 2 ^ 32) ⌝ }
-{
-    x as u64
+    laws::wide(r.b0) + laws::wide(r.b1) + laws::wide(r.b2) + laws::wide(r.b3)
 }
 
 // The rule on a record, its dear part last.
@@ -104,7 +98,7 @@ fn allowed(r: Record) -> bool
     if !sigma_taken(r.answer, r.sigma, kept) {
         return false;
     }
-    counts_taken(r.width, r.height, kept + wide(r.rail))
+    counts_taken(r.width, r.height, kept + laws::wide(r.rail))
 }
 
 // ---- reading

@@ -1,3 +1,2 @@
--- What the definitions say, read back; and tests and refusals.
+-- What the definitions say, read back.
 pub mod Laws
-pub mod Refusing

@@ -5,7 +5,7 @@ use denote.Ref.{now}
 use borrow.Author.Needs.{needs}
 use Rattle.ranges.specs.Ranges.{upTo}
 use Rattle.knots.specs.Loops.{sound}
-use Rattle.refine.proofs.Refusing.{and}
+use Rattle.laws.proofs.Refusing.{and}
 use Rattle.model.proofs.Refusals.{none, too-many, not-rising, out-of-range, taken}
 use Rattle.model.proofs.knots_number.Statement.{statement}
 use Rattle.model.proofs.knots_number.Tie as tie

@@ -71,7 +71,7 @@ returns-5 c =
     c .counts-taken .ensures
     ∙ by-counts _ (sym (large .too-large .ensures) ∙ small .before .if1 .left) (sym (small .too-small .ensures) ∙ stored .before .if2 .left)
     (sym (stored .stored-answer .ensures) ∙ not-false _ (sum .before .if3 .left)) (sum .band-sum .result) (sum .band-sum .ensures .0)
-    (c .before .wide .result) (c .before .wide .ensures .0)
+    (c .before .wide .result) (c .before .wide .ensures)
     (sym (judged .sigma-taken .ensures) ∙ not-false _ (c .before .before .if4 .left))
 
 pub allowed-spec : {M : Type 1} → statement M

@@ -1,5 +1,4 @@
 -- Each return is what the tests before it leave of the rule.
-use mathlib.Core.Path.{_≡_, sym, ap, _∙_}
 use borrow.Author.Needs.{needs}
 use borrow.Author.Tests.{eq-eqb, ne-eqb}
 use Rattle.record.specs.Rule.{countsTaken}

@@ -1,9 +1,8 @@
 -- What is laid and what is still to come make up the fields' bytes.
-use mathlib.Core.Path.{_≡_, refl, sym, _∙_}
-use Prim.Native.Nat.{ℕ, _-_, _≤_, _<_}
+use mathlib.Core.Path.{refl}
+use Prim.Native.Nat.{_-_, _<_}
 use native.Mathlib.Omega.{arith}
-use lib.ListN.{length, getD, take}
-use lib.Seq.{length-take-le, getD-take}
+use lib.ListN.{length}
 use Rattle.record.specs.Records.{formNF}
 use Rattle.record.proofs.Putting.{Laying, lay-start, lay-room, lay-turn, lay-end}
 use Rattle.record.proofs.put_fields.Statement.{statement}

@@ -1,6 +1,5 @@
 -- Ten fields at the places of their bytes.
 use mathlib.Core.Path.{_≡_, ap, _∙_}
-use mathlib.Core.List.{List}
 use Prim.Native.Nat.{ℕ}
 use Rattle.record.specs.declared.Record.{Record}
 use Rattle.record.specs.Records.{formNF, recordOf}

@@ -7,7 +7,7 @@ use lib.IntN.{pos}
 use lib.ListN.{getD}
 use borrow.Author.Needs.{needs}
 use borrow.Author.Tests.{not-true, not-false, ltb-true}
-use Rattle.refine.proofs.Refusing.{and, and-left, and-right}
+use Rattle.laws.proofs.Refusing.{and, and-left, and-right}
 use Rattle.support.specs.Support.{stateNumber, inSide}
 use Rattle.support.specs.Steps.{pastOrigin}
 use Rattle.gradients.specs.Gradients.{inSupport, bothFinite}

@@ -4,7 +4,7 @@ use mathlib.Core.Bool.{_&&_}
 use lib.Ieee.{ofBits}
 use borrow.Author.Tests.{not-true, not-false}
 use borrow.Author.Needs.{needs}
-use Rattle.refine.proofs.Refusing.{and}
+use Rattle.laws.proofs.Refusing.{and}
 use Rattle.model.specs.declared.GainResidual.{GainResidual}
 use Rattle.model.specs.Knots.{knotsNumber}
 use Rattle.model.specs.Systematic.{systematic}
