@@ -120,5 +120,11 @@ int main(int argc, char **argv)
     append(log, argv[1], shots + 1, grain);
     append(log, argv[1], shots + 2, stripes);
     read_log(log, argv[1], true);
-    return fclose(log) == 0 ? 0 : 2;
+    if (fclose(log) != 0) {
+        stop(argv[1]);
+    }
+    if (fflush(stdout) != 0 || ferror(stdout)) {
+        stop("standard output");
+    }
+    return 0;
 }

@@ -1,14 +1,15 @@
-//! compare [TOPIC..] [--count N] [--seed N]                  runs topics beside the original (none named: those of the gate)
+//! compare [TOPIC..] [--count N] [--seed N]                  runs topics (none named: those of the gate)
 //! compare [TOPIC..] --scale [--seconds S] [--seed N]        runs topics at scale (none named: all) for S seconds, 300 if not told
 //! compare --store TOPIC                                     writes the topic's stored answers into crates/stored_TOPIC
 //! compare --speed [TOPIC]                                   times the calls of a topic, or of the table, beside the original's
 //!
-//! Without --scale each kind of call is run on as many inputs as its topic sets for the gate, or on N, and the stored answers are
-//! held to what --store would write. At scale smaller turns, each with inputs of its own, follow one another until the time is
-//! over; fixed lists are cut into SLICES slices, one to a turn. The first turn is always whole. The same seed gives the same
-//! inputs; --turn T begins at turn T. Progress goes to standard error, the counts of what was compared come at the end; a run that
-//! compares nothing of a topic, or at the gate's size nothing of a kind, ends with status 1. So does the first difference: its
-//! sides and counts are halved while it still differs, and it is printed as a call, with floats as hexadecimal patterns.
+//! A topic compares with the original, or with a reading of document 02 where that adds to it. Without --scale each kind of
+//! call is run on as many inputs as its topic sets for the gate, or on N, and the stored answers are held to what --store would
+//! write. At scale smaller turns, each with inputs of its own, follow one another until the time is over; fixed lists are cut
+//! into SLICES slices, one to a turn. The first turn is always whole. The same seed gives the same inputs; --turn T begins at
+//! turn T. Progress goes to standard error, the counts of what was compared come at the end; a run that compares nothing of a
+//! topic, or at the gate's size nothing of a kind, ends with status 1. So does the first difference: its sides and counts are
+//! halved while it still differs, and it is printed as a call, with floats as hexadecimal patterns.
 
 mod images;
 mod random;

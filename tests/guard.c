@@ -44,9 +44,9 @@ struct work {
 static struct work open_work(const struct lent *lent)
 {
     return (struct work){
-        .ints = open_marked(lent->ints * sizeof(int32_t)),
-        .floats = open_marked(lent->floats * sizeof(float)),
-        .answer = open_marked(lent->answer),
+        .ints = open_filled(lent->ints * sizeof(int32_t)),
+        .floats = open_filled(lent->floats * sizeof(float)),
+        .answer = open_filled(lent->answer),
     };
 }
 
@@ -96,9 +96,9 @@ static void measured(const struct image *image, const char *what, struct lent le
     hold(same(&answer, stored), "another answer");
     size_t ints = 3 * m * sizeof(int32_t);
     size_t floats = (2 * m + 2) * sizeof(float);
-    hold(marked_from(&work.answer, VUZGARI_ANSWER_BYTES), "answer bytes beyond changed");
+    hold(filled_from(&work.answer, VUZGARI_ANSWER_BYTES), "answer bytes beyond changed");
     hold(zero_up_to(&work.ints, ints) && zero_up_to(&work.floats, floats), "work memory not cleared");
-    hold(marked_from(&work.ints, ints) && marked_from(&work.floats, floats), "work memory beyond changed");
+    hold(filled_from(&work.ints, ints) && filled_from(&work.floats, floats), "work memory beyond changed");
     make_read_only(&work.answer);
     measured_record(image, &work.answer, stored);
     close_work(&work);

@@ -55,8 +55,8 @@ static const struct named taken[] = {
     {"another milli, rounds and passes", {1, 26, 26, {0, 0x3F800000, 0x80000000, 529, 0, 0, 0, 0, 0x100, 0}}},
 };
 
-/* Each but the answer of zeros breaks one part of the rule. A side of 3 has no window; of 16,385 it would have those of 16,384; 65,540 and
-   2^32 + 4 would be 4 if they were cut, and 4 by 1,024 has 1,021. */
+/* Each but the answer of zeros breaks one part of the rule. A side of 3 has no window; of 16,385 it would have those of
+   16,384; 65,540 and 2^32 + 4 would be 4 if they were cut, and 4 by 1,024 has 1,021. */
 static const struct named broken[] = {
     {"3 columns", {1, 3, 4, {5}}},
     {"3 rows", {1, 4, 3, {5}}},
@@ -89,7 +89,7 @@ static const struct named broken[] = {
     {"a window past the second pass", {1, 91, 91, {5, [RAIL] = 7745}}},
     {"both passes", {1, 91, 91, {5, [BAND_0] = 1936, [RAIL] = 7744}}},
     {"2^32 + 529 kept", {1, 26, 26, {0, 0x3F800000, [BAND_0] = UINT32_MAX, [BAND_3] = 530}}},
-    {"529 kept, 2^32 in rail and a band", {1, 26, 26, {5, 0, 0, 529, 1, 0, 0, UINT32_MAX}}},
+    {"530 kept, with the rail 2^32 + 529", {1, 26, 26, {5, 0, 0, 529, 1, 0, 0, UINT32_MAX}}},
     {"2^34 + 529 in all", {1, 26, 26, {0, 0x3F800000, 0, UINT32_MAX, UINT32_MAX, UINT32_MAX, UINT32_MAX, 533}}},
 };
 
@@ -139,16 +139,16 @@ static struct room open_answer(const struct shot *shot, size_t bytes)
     for (size_t k = 0; k < ANSWER_FIELDS; k++) {
         put(whole, 4 * k, 4, shot->answer[k]);
     }
-    struct room answer = open_marked(bytes);
+    struct room answer = open_filled(bytes);
     memcpy(answer.at, whole, bytes < sizeof whole ? bytes : sizeof whole);
     make_read_only(&answer);
     return answer;
 }
 
-/* The first bytes of a record, and marks past it. */
+/* The first bytes of a record, and what fills the room past it. */
 static struct room open_record(const uint8_t *record, size_t bytes)
 {
-    struct room room = open_marked(bytes);
+    struct room room = open_filled(bytes);
     memcpy(room.at, record, bytes < BYTES ? bytes : BYTES);
     make_read_only(&room);
     return room;
@@ -172,10 +172,10 @@ static void reads(const struct room *bytes, const struct shot *shot, size_t coun
 {
     uint64_t expected[FIELDS];
     fields_of(shot, expected);
-    struct room fields = open_marked(count * sizeof(uint64_t));
+    struct room fields = open_filled(count * sizeof(uint64_t));
     hold(call_read(bytes, &fields) == VUZGARI_GIVEN, "not read");
     hold(memcmp(fields.at, expected, sizeof expected) == 0, "other fields");
-    hold(marked_from(&fields, FIELDS_BYTES), "fields beyond changed");
+    hold(filled_from(&fields, FIELDS_BYTES), "fields beyond changed");
     close_room(&fields);
 }
 
@@ -184,10 +184,10 @@ static void writes(const struct shot *shot, const struct room *answer, size_t ou
 {
     uint8_t expected[BYTES];
     bytes_of(shot, expected);
-    struct room out = open_marked(out_bytes);
+    struct room out = open_filled(out_bytes);
     hold(call_write(shot, answer, &out) == VUZGARI_GIVEN, "not written");
     hold(memcmp(out.at, expected, sizeof expected) == 0, "another record");
-    hold(marked_from(&out, BYTES), "bytes beyond changed");
+    hold(filled_from(&out, BYTES), "bytes beyond changed");
     make_read_only(&out);
     reads(&out, shot, FIELDS);
     reads(&out, shot, FIELDS + 1);
@@ -199,7 +199,7 @@ static void writes(const struct shot *shot, const struct room *answer, size_t ou
 static void write_refused(const struct shot *shot, size_t answer_bytes, size_t out_bytes, uint32_t number)
 {
     struct room answer = open_answer(shot, answer_bytes);
-    struct room out = open_marked(out_bytes);
+    struct room out = open_filled(out_bytes);
     make_read_only(&out);
     hold(call_write(shot, &answer, &out) == number, "another number of writing");
     close_room(&answer);
@@ -210,7 +210,7 @@ static void write_refused(const struct shot *shot, size_t answer_bytes, size_t o
 static void read_refused(const uint8_t *record, size_t bytes, size_t count, uint32_t number)
 {
     struct room lent = open_record(record, bytes);
-    struct room fields = open_marked(count * sizeof(uint64_t));
+    struct room fields = open_filled(count * sizeof(uint64_t));
     make_read_only(&fields);
     hold(call_read(&lent, &fields) == number, "another number of reading");
     close_room(&lent);
@@ -371,8 +371,8 @@ static void beyond(void)
 {
     begin("record", "nothing past 40 bytes, 35 and 10 fields");
     struct room answer = open_answer(&good, VUZGARI_ANSWER_BYTES);
-    struct room out = open_marked(BYTES);
-    struct room fields = open_marked(FIELDS_BYTES);
+    struct room out = open_filled(BYTES);
+    struct room fields = open_filled(FIELDS_BYTES);
     answer.bytes = out.bytes = fields.bytes = 8 * VUZGARI_ANSWER_BYTES;
     hold(call_write(&good, &answer, &out) == VUZGARI_GIVEN, "not written");
     hold(memcmp(out.at, good_bytes, BYTES) == 0, "another record");
@@ -388,7 +388,7 @@ static void nulls(void)
     begin("record", "null pointers");
     struct room answer = open_answer(&good, VUZGARI_ANSWER_BYTES);
     struct room bytes = open_record(good_bytes, BYTES);
-    struct room fields = open_marked(FIELDS_BYTES);
+    struct room fields = open_filled(FIELDS_BYTES);
     make_read_only(&fields);
     struct room none = {0};
     hold(call_write(&good, &none, &none) == VUZGARI_SHORT_SLICE, "no answer, no record");

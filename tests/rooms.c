@@ -80,24 +80,24 @@ void close_room(struct room *room)
     munmap(room->map, room->map_bytes);
 }
 
-static uint8_t mark(size_t k)
+static uint8_t filler(size_t k)
 {
     return (uint8_t)(1 + k % 255);
 }
 
-struct room open_marked(size_t bytes)
+struct room open_filled(size_t bytes)
 {
     struct room room = open_room(bytes);
     for (size_t k = 0; k < bytes; k++) {
-        room.at[k] = mark(k);
+        room.at[k] = filler(k);
     }
     return room;
 }
 
-bool marked_from(const struct room *room, size_t first)
+bool filled_from(const struct room *room, size_t first)
 {
     for (size_t k = first; k < room->bytes; k++) {
-        if (room->at[k] != mark(k)) {
+        if (room->at[k] != filler(k)) {
             return false;
         }
     }

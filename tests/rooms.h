@@ -31,11 +31,11 @@ struct room open_room(size_t bytes);
 void make_read_only(const struct room *room);
 void close_room(struct room *room);
 
-/* A room of marks: at each place what stands there before a call, never 0. */
-struct room open_marked(size_t bytes);
+/* A filled room: at each place what stands there before a call, never 0. */
+struct room open_filled(size_t bytes);
 
-/* Whether all marks from a place on still stand. */
-bool marked_from(const struct room *room, size_t first);
+/* Whether what filled the room from a place on still stands. */
+bool filled_from(const struct room *room, size_t first);
 
 /* The bytes of as many pages as hold these. */
 size_t whole_pages(size_t bytes);

@@ -1,4 +1,5 @@
-//! Lists of calls that a program `stored_TOPIC` replays, and what it says of them, from the original's answers.
+//! Lists of calls that a program `stored_TOPIC` replays, and what it says of them, from the answers of the original or of
+//! the reading of document 02.
 
 use super::Stored;
 

@@ -19,9 +19,25 @@ use Rattle.record.specs.Demand1.{WriteMeets}
 use Rattle.record.specs.RoundTrip.{Typed}
 use Rattle.record.proofs.Demand1.{write-meets}
 use Rattle.record.proofs.RoundTrip.{read-written}
-use Rattle.logging.specs.Logging.{recordOfAnswer, recordFrom}
+use Rattle.logging.specs.Logging.{recordOfAnswer, recordFrom, SameKept}
 use Rattle.logging.specs.Recorded.{Recorded}
 use Rattle.logging.proofs.Answers.{keeps-rule, number-fits, sigma-fits, counts-fit}
+
+-- what a record does not keep is not looked at
+pub by-kept : (shot w h : ℕ) {l m : List ℕ} → SameKept l m → recordFrom shot w h l ≡ recordFrom shot w h m
+by-kept shot w h s =
+    λ i. record {
+      shot = shot;
+      width = w;
+      height = h;
+      answer = s .number i;
+      sigma = s .sigma i;
+      b0 = s .b0 i;
+      b1 = s .b1 i;
+      b2 = s .b2 i;
+      b3 = s .b3 i;
+      rail = s .rail i;
+    }
 
 -- the bytes of an answer at the places of what a record keeps
 places : (a : Answer) (rest : List ℕ)

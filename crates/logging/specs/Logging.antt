@@ -1,5 +1,6 @@
 -- The record of a shot from what the noise call answered: its number, sigma's bits, the bands and the rail. Milli, rounds and
 -- passes are not kept.
+use mathlib.Core.Path.{_≡_}
 use mathlib.Core.List.{List}
 use Prim.Native.Nat.{ℕ, _+_, _*_}
 use lib.Seq.{slice}
@@ -42,3 +43,13 @@ recordFrom shot w h bytes =
       b3 = fieldAt bytes 6;
       rail = fieldAt bytes 7;
     }
+
+-- two answer slices with the same number, sigma, bands and rail, whatever else they hold
+pub record SameKept (l m : List ℕ) : Type 0 where
+  pub number : fieldAt l 0 ≡ fieldAt m 0
+  pub sigma : fieldAt l 1 ≡ fieldAt m 1
+  pub b0 : fieldAt l 3 ≡ fieldAt m 3
+  pub b1 : fieldAt l 4 ≡ fieldAt m 4
+  pub b2 : fieldAt l 5 ≡ fieldAt m 5
+  pub b3 : fieldAt l 6 ≡ fieldAt m 6
+  pub rail : fieldAt l 7 ≡ fieldAt m 7

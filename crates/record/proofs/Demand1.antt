@@ -39,7 +39,7 @@ module _ (f : Form) (r : Record) (out : List ℕ) where
       record {
         only = elim o [ inl p ↦ inr (inl (e ∙ p)) | inr p ↦ inr (inr (e ∙ p)) ];
         broken = (λ p. b .0 (sym e ∙ p), λ p. e ∙ b .1 p);
-        short = (λ p. s .0 (sym e ∙ p), λ p. e ∙ s .1 p);
+        no-room = (λ p. s .0 (sym e ∙ p), λ p. e ∙ s .1 p);
         taken = (λ p. absurd (z (sym e ∙ p)), λ p. absurd (t p));
         stays = λ _. k;
         changes = λ p. absurd (z (sym e ∙ p));
@@ -67,7 +67,7 @@ module _ (f : Form) (r : Record) (out : List ℕ) where
                 record {
                   only = inl e;
                   broken = (λ p. absurd (omega (arith, e, p)), λ p. absurd (p yes));
-                  short = (λ p. absurd (omega (arith, e, p)), λ p. absurd (omega (arith, p .1)));
+                  no-room = (λ p. absurd (omega (arith, e, p)), λ p. absurd (omega (arith, p .1)));
                   taken = (λ _. (yes, h), λ _. e);
                   stays = λ p. absurd (p e);
                   changes = λ _. sym (left .1);
@@ -103,7 +103,7 @@ module _ (f : Form) (l : List ℕ) where
           let e = sym (short f l h) in
           record {
             only = inr (inr (inl e));
-            short = (λ _. h, λ _. e);
+            cut-short = (λ _. h, λ _. e);
             mark = (λ p. absurd (omega (arith, differ (sym e ∙ p))), λ p. absurd (omega (arith, p .0)));
             broken = (λ p. absurd (omega (arith, differ (sym e ∙ p))), λ p. absurd (omega (arith, p .0)));
             given = λ r. (λ p. absurd (omega (arith, no-number (sym e ∙ p))), λ p. absurd (omega (arith, p .0)));
@@ -115,7 +115,7 @@ module _ (f : Form) (l : List ℕ) where
           let no = not-words (allowed (recordIn f l)) (allowed-iff (recordIn f l)) a in
           record {
             only = inr (inr (inr e));
-            short = (λ p. absurd (omega (arith, differ (sym e ∙ p))), λ p. absurd (omega (arith, p)));
+            cut-short = (λ p. absurd (omega (arith, differ (sym e ∙ p))), λ p. absurd (omega (arith, p)));
             mark = (λ p. absurd (omega (arith, differ (sym e ∙ p))), λ p. absurd (p .1 (marked-iff f l .0 m)));
             broken = (λ _. (h, marked-iff f l .0 m, no), λ _. e);
             given = λ r. (λ p. absurd (omega (arith, no-number (sym e ∙ p))), λ p. absurd (no (subst Allowed (p .3) (p .2))));
@@ -125,7 +125,7 @@ module _ (f : Form) (l : List ℕ) where
           let yes = allowed-iff (recordIn f l) .0 a in
           record {
             only = inl e;
-            short = (λ p. absurd (omega (arith, no-number (sym p ∙ e))), λ p. absurd (omega (arith, p)));
+            cut-short = (λ p. absurd (omega (arith, no-number (sym p ∙ e))), λ p. absurd (omega (arith, p)));
             mark = (λ p. absurd (omega (arith, no-number (sym p ∙ e))), λ p. absurd (p .1 (marked-iff f l .0 m)));
             broken = (λ p. absurd (omega (arith, no-number (sym p ∙ e))), λ p. absurd (p .2 yes));
             given = λ r. (
@@ -140,7 +140,7 @@ module _ (f : Form) (l : List ℕ) where
           let no = not-words (marked f l) (marked-iff f l) m in
           record {
             only = inr (inl e);
-            short = (λ p. absurd (omega (arith, differ (sym e ∙ p))), λ p. absurd (omega (arith, p)));
+            cut-short = (λ p. absurd (omega (arith, differ (sym e ∙ p))), λ p. absurd (omega (arith, p)));
             mark = (λ _. (h, no), λ _. e);
             broken = (λ p. absurd (omega (arith, differ (sym e ∙ p))), λ p. absurd (no (p .1)));
             given = λ r. (λ p. absurd (omega (arith, no-number (sym e ∙ p))), λ p. absurd (no (p .1)));

@@ -1,4 +1,4 @@
--- Numbers laid out in widths and read from them again: each undoes the other.
+-- Numbers laid out in counts of bytes and read from them again: each undoes the other.
 use mathlib.Core.Path.{_≡_, refl, sym, ap, _∙_, subst}
 use mathlib.Core.List.{List, [], _∷_, _++_, append-assoc}
 use Prim.Native.Nat.{ℕ, _+_, _-_, _^_, _≤_, _<_}
@@ -8,7 +8,7 @@ use lib.Seq.{slice, take-at, drop-at, take-add, length-take-le, take-append-le, 
 use Rattle.laws.proofs.Each.{each-take, each-drop}
 use Rattle.little_endian.specs.Bytes.{bytesOf, valueOf, Bytes}
 use Rattle.little_endian.proofs.Laws.{length-bytes, value-bytes, bytes-value, value-lt}
-use Rattle.record.specs.Layout.{bytesIn, numbersIn, widthSum, Fit}
+use Rattle.record.specs.Layout.{bytesIn, numbersIn, byteSum, Fit}
 
 -- ---- a part of a list, cut from its start
 pub slice-is : {A : Type 0} (at n : ℕ) (l : List A) → at + n ≤ length l → slice at (at + n) l ≡ take n (drop at l)
@@ -16,7 +16,7 @@ slice-is {A} at n l h = ap (λ (k : List A). drop at k) (take-add at n l) ∙ dr
 
 -- ---- round trips
 
-pub length-laid : (ns xs : List ℕ) → Fit ns xs → length (bytesIn ns xs) ≡ widthSum ns
+pub length-laid : (ns xs : List ℕ) → Fit ns xs → length (bytesIn ns xs) ≡ byteSum ns
 unfolding bytesIn Fit
 length-laid [] xs f = refl
 length-laid (n ∷ ns) [] f = absurd f
@@ -34,26 +34,17 @@ numbers-bytes (n ∷ ns) (x ∷ xs) after f =
     ∙ ap (λ (l : List ℕ). x ∷ numbersIn ns l) (drop-at (bytesOf n x) (bytesIn ns xs ++ after) n (length-bytes n x))
     ∙ ap (λ (l : List ℕ). x ∷ l) (numbers-bytes ns xs after (f .1))
 
-pub bytes-numbers : (ns l : List ℕ) → Bytes l → widthSum ns ≤ length l → bytesIn ns (numbersIn ns l) ≡ take (widthSum ns) l
+pub bytes-numbers : (ns l : List ℕ) → Bytes l → byteSum ns ≤ length l → bytesIn ns (numbersIn ns l) ≡ take (byteSum ns) l
 unfolding bytesIn numbersIn
 bytes-numbers [] l b h = refl
 bytes-numbers (n ∷ ns) l b h =
     ap (λ (m : ℕ). bytesOf m (valueOf (take n l)) ++ bytesIn ns (numbersIn ns (drop n l))) (sym (length-take-le n l (omega arith)))
     ∙ ap (λ (k : List ℕ). k ++ bytesIn ns (numbersIn ns (drop n l))) (bytes-value (take n l) (each-take (λ b. b < 256) n l b))
     ∙ ap (λ (k : List ℕ). take n l ++ k) (bytes-numbers ns (drop n l) (each-drop (λ b. b < 256) n l b) (omega (arith, length-drop n l)))
-    ∙ sym (take-add n (widthSum ns) l)
+    ∙ sym (take-add n (byteSum ns) l)
 
--- what numbersIn gives fits
-pub numbers-fit : (ns l : List ℕ) → Bytes l → widthSum ns ≤ length l → Fit ns (numbersIn ns l)
-unfolding numbersIn Fit
-numbers-fit [] l b h = tt
-numbers-fit (n ∷ ns) l b h = (
-  subst (λ (m : ℕ). valueOf (take n l) < 256 ^ m) (length-take-le n l (omega arith)) (value-lt (take n l) (each-take (λ b. b < 256) n l b)),
-  numbers-fit ns (drop n l) (each-drop (λ b. b < 256) n l b) (omega (arith, length-drop n l)),
-)
-
--- only the bytes of the widths are read
-pub numbers-front : (ns l : List ℕ) (after : List ℕ) → widthSum ns ≤ length l → numbersIn ns (l ++ after) ≡ numbersIn ns l
+-- only as many bytes are read as the counts are in all
+pub numbers-front : (ns l : List ℕ) (after : List ℕ) → byteSum ns ≤ length l → numbersIn ns (l ++ after) ≡ numbersIn ns l
 unfolding numbersIn
 numbers-front [] l after h = refl
 numbers-front (n ∷ ns) l after h =
@@ -67,7 +58,7 @@ abbrev pub slicesAt : List ℕ → ℕ → List ℕ → List ℕ
 slicesAt [] at l = []
 slicesAt (n ∷ ns) at l = valueOf (slice at (at + n) l) ∷ slicesAt ns (at + n) l
 
-pub numbers-at : (ns : List ℕ) (at : ℕ) (l : List ℕ) → at + widthSum ns ≤ length l → slicesAt ns at l ≡ numbersIn ns (drop at l)
+pub numbers-at : (ns : List ℕ) (at : ℕ) (l : List ℕ) → at + byteSum ns ≤ length l → slicesAt ns at l ≡ numbersIn ns (drop at l)
 unfolding numbersIn
 numbers-at [] at l h = refl
 numbers-at (n ∷ ns) at l h =

@@ -1,4 +1,4 @@
--- A loop that lays numbers in their widths one after the other, from place 2 on, and has laid k of them, up to place `at`.
+-- A loop that lays numbers in their counts of bytes one after the other, from place 2 on, and has laid k of them, up to place `at`.
 use mathlib.Core.Path.{_≡_, refl, sym, ap, _∙_, subst}
 use mathlib.Core.List.{List, [], _∷_, _++_}
 use Prim.Native.Nat.{ℕ, _+_, _≤_, _<_}
@@ -10,7 +10,7 @@ use Rattle.laws.proofs.Fill.{Writing, start, put-many, end}
 use Rattle.laws.specs.Lists.{laid}
 use Rattle.little_endian.specs.Bytes.{bytesOf}
 use Rattle.little_endian.proofs.Laws.{length-bytes}
-use Rattle.record.specs.Layout.{bytesIn, widthSum}
+use Rattle.record.specs.Layout.{bytesIn, byteSum}
 
 -- a list at its element k
 next : (l : List ℕ) (k : ℕ) → k < length l → drop k l ≡ getD l k 0 ∷ drop (k + 1) l
@@ -19,7 +19,7 @@ next l k h = drop-cons l k 0 h ∙ ap (λ (j : ℕ). getD l k 0 ∷ drop j l) (s
 pub record Laying (ns xs out₀ : List ℕ) (at k : ℕ) (out : List ℕ) : Type 0 where
   pub low : k ≤ length ns
   pub long : length out ≡ length out₀
-  pub left : at + widthSum (drop k ns) ≡ 2 + widthSum ns
+  pub left : at + byteSum (drop k ns) ≡ 2 + byteSum ns
   pub writing : Writing (take 2 out₀ ++ bytesIn ns xs) out₀ at out (bytesIn (drop k ns) (drop k xs))
 
 module _ {ns xs out₀ : List ℕ} where
@@ -27,13 +27,13 @@ module _ {ns xs out₀ : List ℕ} where
   lay-start = record { low = omega arith; long = refl; left = refl; writing = start out₀ 2 (bytesIn ns xs) }
 
   module _ {at k n : ℕ} {out : List ℕ} (i : Laying ns xs out₀ at k out) (h : k < length ns) (g : k < length xs) (en : n ≡ getD ns k 0) where
-    left-more : at + n + widthSum (drop (k + 1) ns) ≡ 2 + widthSum ns
-    left-more = omega (arith, i .left, ap widthSum (next ns k h))
+    left-more : at + n + byteSum (drop (k + 1) ns) ≡ 2 + byteSum ns
+    left-more = omega (arith, i .left, ap byteSum (next ns k h))
 
-    pub lay-room : 2 + widthSum ns ≤ length out₀ → at + n ≤ length out
+    pub lay-room : 2 + byteSum ns ≤ length out₀ → at + n ≤ length out
     lay-room r = omega (arith, left-more, i .long)
 
-    pub lay-turn : {x : ℕ} {out′ : List ℕ} → 2 + widthSum ns ≤ length out₀ → x ≡ getD xs k 0 → out′ ≡ laid out at (bytesOf n x) → Laying ns xs out₀ (at + n) (k + 1) out′
+    pub lay-turn : {x : ℕ} {out′ : List ℕ} → 2 + byteSum ns ≤ length out₀ → x ≡ getD xs k 0 → out′ ≡ laid out at (bytesOf n x) → Laying ns xs out₀ (at + n) (k + 1) out′
     unfolding bytesIn
     lay-turn {x} {out′} r ex e = record { low = omega arith; long = more .long; left = left-more; writing = more }
       where
@@ -46,7 +46,7 @@ module _ {ns xs out₀ : List ℕ} where
             ∙ ap (λ (m : ℕ). bytesOf m (getD xs k 0) ++ bytesIn (drop (k + 1) ns) (drop (k + 1) xs)) (sym en)
             ∙ ap (λ (y : ℕ). bytesOf n y ++ bytesIn (drop (k + 1) ns) (drop (k + 1) xs)) (sym ex)) (i .writing))
 
-  pub lay-end : {at k : ℕ} {out : List ℕ} → Laying ns xs out₀ at k out → length ns ≤ k → out ≡ (take 2 out₀ ++ bytesIn ns xs) ++ drop (2 + widthSum ns) out₀
+  pub lay-end : {at k : ℕ} {out : List ℕ} → Laying ns xs out₀ at k out → length ns ≤ k → out ≡ (take 2 out₀ ++ bytesIn ns xs) ++ drop (2 + byteSum ns) out₀
   unfolding bytesIn
   lay-end {at} {k} {out} i h =
       end (subst (λ (l : List ℕ). Writing (take 2 out₀ ++ bytesIn ns xs) out₀ at out l) (ap (λ (l : List ℕ). bytesIn l (drop k xs)) none) (i .writing))
@@ -55,8 +55,8 @@ module _ {ns xs out₀ : List ℕ} where
       none : drop k ns ≡ []
       none = drop-of-length-le ns {i = k} h
 
-      whole : at ≡ 2 + widthSum ns
-      whole = omega (arith, i .left, ap widthSum none)
+      whole : at ≡ 2 + byteSum ns
+      whole = omega (arith, i .left, ap byteSum none)
 
 -- ---- two bytes over the first two
 

@@ -32,7 +32,7 @@ answer-byte a (inr (inr (inl e))) = omega arith
 answer-byte a (inr (inr (inr e))) = omega arith
 
 -- what the rule takes fits its bytes, so nothing is cut
-pub allowed-fit : (r : Record) → Typed r → Allowed r → Fit (formNF .widths) (fieldsOf r)
+pub allowed-fit : (r : Record) → Typed r → Allowed r → Fit (formNF .fieldBytes) (fieldsOf r)
 unfolding Fit
 allowed-fit r t a = (
   t .shot,
@@ -46,12 +46,12 @@ fields-back : (r : Record) → recordOf (fieldsOf r) ≡ r
 fields-back r = refl
 
 -- the record's bytes, whatever follows them
-pub bytes-read : (r : Record) (after : List ℕ) → Fit (formNF .widths) (fieldsOf r) → allowed r ≡ true → readAs formNF (bytesAs formNF r ++ after) ≡ Given r
+pub bytes-read : (r : Record) (after : List ℕ) → Fit (formNF .fieldBytes) (fieldsOf r) → allowed r ≡ true → readAs formNF (bytesAs formNF r ++ after) ≡ Given r
 unfolding bytesAs
 bytes-read r after fit ok =
-    sym (given formNF (0x4E ∷ 0x46 ∷ (bytesIn (formNF .widths) (fieldsOf r) ++ after))
-    (omega (arith, length-append (bytesIn (formNF .widths) (fieldsOf r)) after, length-laid (formNF .widths) (fieldsOf r) fit)) refl r
-    (sym (ap recordOf (numbers-bytes (formNF .widths) (fieldsOf r) after fit) ∙ fields-back r)) ok)
+    sym (given formNF (0x4E ∷ 0x46 ∷ (bytesIn (formNF .fieldBytes) (fieldsOf r) ++ after))
+    (omega (arith, length-append (bytesIn (formNF .fieldBytes) (fieldsOf r)) after, length-laid (formNF .fieldBytes) (fieldsOf r) fit)) refl r
+    (sym (ap recordOf (numbers-bytes (formNF .fieldBytes) (fieldsOf r) after fit) ∙ fields-back r)) ok)
 
 pub read-written : (r : Record) (out : List ℕ) → Typed r → writtenAs formNF r out .number ≡ 0 → readAs formNF (writtenAs formNF r out .bytes) ≡ Given r
 read-written r out t e =
@@ -72,7 +72,7 @@ front-two (x ∷ []) a b h p q = absurd (none h)
     none h = omega arith
 front-two (x ∷ y ∷ l) a b h p q = cc
 
-numbers-back : (l : List ℕ) → fieldsOf (recordOf (numbersIn (formNF .widths) l)) ≡ numbersIn (formNF .widths) l
+numbers-back : (l : List ℕ) → fieldsOf (recordOf (numbersIn (formNF .fieldBytes) l)) ≡ numbersIn (formNF .fieldBytes) l
 unfolding numbersIn
 numbers-back l = refl
 
@@ -80,10 +80,10 @@ pub bytes-back : (l : List ℕ) (r : Record) → Bytes l → readAs formNF l ≡
 unfolding bytesAs
 bytes-back l r b e =
     let g = read-meets formNF l .given r .0 e in
-    ap (λ (x : Record). 0x4E ∷ 0x46 ∷ bytesIn (formNF .widths) (fieldsOf x)) (g .3)
-    ∙ ap (λ (xs : List ℕ). 0x4E ∷ 0x46 ∷ bytesIn (formNF .widths) xs) (numbers-back (drop 2 l))
+    ap (λ (x : Record). 0x4E ∷ 0x46 ∷ bytesIn (formNF .fieldBytes) (fieldsOf x)) (g .3)
+    ∙ ap (λ (xs : List ℕ). 0x4E ∷ 0x46 ∷ bytesIn (formNF .fieldBytes) xs) (numbers-back (drop 2 l))
     ∙ ap (λ (xs : List ℕ). 0x4E ∷ 0x46 ∷ xs)
-    (bytes-numbers (formNF .widths) (drop 2 l) (each-drop (λ n. n < 256) 2 l b) (omega (arith, g .0, length-drop 2 l)))
+    (bytes-numbers (formNF .fieldBytes) (drop 2 l) (each-drop (λ n. n < 256) 2 l b) (omega (arith, g .0, length-drop 2 l)))
     ∙ ap (λ (xs : List ℕ). xs ++ take 33 (drop 2 l)) (front-two l 0x4E 0x46 (omega (arith, g .0)) (g .1 .0) (g .1 .1))
     ∙ sym (take-add 2 33 l)
 
@@ -113,5 +113,5 @@ read-front f l after h =
       le-ltb (length l) (sizeOf f) h,
       marked-front f l after (omega arith),
       drop-append-le 2 l after (omega arith),
-      numbers-front (f .widths) (drop 2 l) after (omega (arith, length-drop 2 l)),
+      numbers-front (f .fieldBytes) (drop 2 l) after (omega (arith, length-drop 2 l)),
     ) refl

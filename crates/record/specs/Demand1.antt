@@ -19,7 +19,7 @@ pub record WriteMeets (f : Form) (r : Record) (out : List ℕ) (w : Written) : T
   -- no other number than 0, 18 and 19
   pub only : (w .number ≡ 0) ⊎ (w .number ≡ 18) ⊎ (w .number ≡ 19)
   pub broken : (w .number ≡ 19) ↔ (Allowed r → ⊥)
-  pub short : (w .number ≡ 18) ↔ (Allowed r × (length out < sizeOf f))
+  pub no-room : (w .number ≡ 18) ↔ (Allowed r × (length out < sizeOf f))
   pub taken : (w .number ≡ 0) ↔ (Allowed r × (sizeOf f ≤ length out))
   -- a refused write changes no byte
   pub stays : (w .number ≡ 0 → ⊥) → w .bytes ≡ out
@@ -30,7 +30,7 @@ pub record WriteMeets (f : Form) (r : Record) (out : List ℕ) (w : Written) : T
 pub record ReadMeets (f : Form) (l : List ℕ) (x : Reading) : Type 0 where
   -- a record, or no other number than 17, 18 and 19
   pub only : (x ≡ Given (recordIn f l)) ⊎ (x ≡ Refused 17) ⊎ (x ≡ Refused 18) ⊎ (x ≡ Refused 19)
-  pub short : (x ≡ Refused 18) ↔ (length l < sizeOf f)
+  pub cut-short : (x ≡ Refused 18) ↔ (length l < sizeOf f)
   pub mark : (x ≡ Refused 17) ↔ ((sizeOf f ≤ length l) × (Marked f l → ⊥))
   pub broken : (x ≡ Refused 19) ↔ ((sizeOf f ≤ length l) × Marked f l × (Allowed (recordIn f l) → ⊥))
   pub given : (r : Record) → (x ≡ Given r) ↔ ((sizeOf f ≤ length l) × Marked f l × Allowed r × (r ≡ recordIn f l))

@@ -75,15 +75,26 @@ pub rules : (allowed quiet ≡ true) × (allowed (shot 5 0 513 27) ≡ true) × 
 unfolding allowed storedAnswer sigmaTaken countsTaken placesOf stepOf
 rules = (refl, refl, refl, refl, refl, refl, refl)
 
--- sides of w by h with one window dropped
-abbrev sided : ℕ → ℕ → Record
-sided w h = record { shot = 0; width = w; height = h; answer = 5; sigma = 0; b0 = 0; b1 = 0; b2 = 0; b3 = 0; rail = 1 }
-
--- 65,540 is not cut to 4
-pub sides : (allowed (sided 4 4) ≡ true) × (allowed (sided 3 4) ≡ false) × (allowed (sided 4 3) ≡ false)
-    × (allowed (sided 16385 4) ≡ false) × (allowed (sided 4 16385) ≡ false) × (allowed (sided 65540 4) ≡ false)
+-- 2^32 - 1 windows in a band and 541 in the rail: in 32 bits they would be 552 with the 12 others
+pub not-wrapped : allowed (shot 5 0 0xFFFF_FFFF 541) ≡ false
 unfolding allowed storedAnswer sigmaTaken countsTaken placesOf stepOf
-sides = (refl, refl, refl, refl, refl, refl)
+not-wrapped = refl
+
+-- sides of w by h with n windows, all of them dropped
+abbrev sided : ℕ → ℕ → ℕ → Record
+sided w h n = record { shot = 0; width = w; height = h; answer = 5; sigma = 0; b0 = 0; b1 = 0; b2 = 0; b3 = 0; rail = n }
+
+-- with the windows that the grid has there, or would have; 65,540 is not cut to 4
+pub sides : (allowed (sided 4 4 1) ≡ true) × (allowed (sided 3 4 0) ≡ false) × (allowed (sided 4 3 0) ≡ false)
+    × (allowed (sided 16384 4 5461) ≡ true) × (allowed (sided 16385 4 5461) ≡ false)
+    × (allowed (sided 4 16385 1820) ≡ false) × (allowed (sided 65540 4 1) ≡ false)
+unfolding allowed storedAnswer sigmaTaken countsTaken placesOf stepOf
+sides = (refl, refl, refl, refl, refl, refl, refl)
+
+-- 2,049 by 4 and 4 by 2,049 have other windows
+pub upright : (allowed (sided 2049 4 1023) ≡ true) × (allowed (sided 4 2049 1023) ≡ false)
+unfolding allowed storedAnswer sigmaTaken countsTaken placesOf stepOf
+upright = (refl, refl)
 
 -- ---- writing
 
@@ -94,8 +105,8 @@ writes = refl
 
 -- 18; and 19 before it
 pub refused-writes : (writtenAs formNF quiet (replicate 34 9) ≡ record { number = 18; bytes = replicate 34 9 })
-    × (writtenAs formNF (sided 3 4) (replicate 34 9) ≡ record { number = 19; bytes = replicate 34 9 })
-    × (writtenAs formNF (sided 3 4) (replicate 36 9) ≡ record { number = 19; bytes = replicate 36 9 })
+    × (writtenAs formNF (sided 3 4 0) (replicate 34 9) ≡ record { number = 19; bytes = replicate 34 9 })
+    × (writtenAs formNF (sided 3 4 0) (replicate 36 9) ≡ record { number = 19; bytes = replicate 36 9 })
 unfolding writtenAs allowed storedAnswer sigmaTaken countsTaken placesOf stepOf
 refused-writes = (refl, refl, refl)
 

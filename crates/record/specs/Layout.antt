@@ -1,26 +1,26 @@
--- Numbers one after the other as little-endian bytes, each in a width of its own.
+-- Numbers one after the other as little-endian bytes, each in so many bytes as a list of counts says.
 use mathlib.Core.List.{List, [], _∷_, _++_}
 use Prim.Native.Nat.{ℕ, _+_, _^_, _<_}
 use lib.ListN.{take, drop}
 use Rattle.little_endian.specs.Bytes.{bytesOf, valueOf}
 
--- the bytes of numbers in these widths; a number beyond the widths has none
+-- the bytes of numbers in these counts; a number beyond the counts has none
 unfoldable pub bytesIn : List ℕ → List ℕ → List ℕ
 bytesIn [] xs = []
 bytesIn (n ∷ ns) [] = []
 bytesIn (n ∷ ns) (x ∷ xs) = bytesOf n x ++ bytesIn ns xs
 
--- the numbers that bytes hold in these widths, from the front on
+-- the numbers that bytes hold in these counts, from the front on
 unfoldable pub numbersIn : List ℕ → List ℕ → List ℕ
 numbersIn [] l = []
 numbersIn (n ∷ ns) l = valueOf (take n l) ∷ numbersIn ns (drop n l)
 
--- how many bytes the widths take
-abbrev pub widthSum : List ℕ → ℕ
-widthSum [] = 0
-widthSum (n ∷ ns) = n + widthSum ns
+-- how many bytes these are in all
+abbrev pub byteSum : List ℕ → ℕ
+byteSum [] = 0
+byteSum (n ∷ ns) = n + byteSum ns
 
--- there is one number for each width, and it fits
+-- there is one number for each count, and it fits
 unfoldable pub Fit : List ℕ → List ℕ → Type 0
 Fit [] [] = Unit {0}
 Fit [] (x ∷ xs) = ⊥

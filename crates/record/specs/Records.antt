@@ -1,10 +1,10 @@
--- The bytes of a record, what bytes hold, and what a write leaves: over the form, a mark and widths.
+-- The bytes of a record, what bytes hold, and what a write leaves: over the form, a mark and how many bytes each field takes.
 use mathlib.Core.Bool.{Bool, cond, _&&_}
 use mathlib.Core.List.{List, [], _∷_, _++_}
 use Prim.Native.Nat.{ℕ, _+_}
 use lib.Dec.{ltb, eqb}
 use lib.ListN.{length, getD, drop}
-use Rattle.record.specs.Layout.{bytesIn, numbersIn, widthSum}
+use Rattle.record.specs.Layout.{bytesIn, numbersIn, byteSum}
 use Rattle.record.specs.Rule.{allowed}
 use Rattle.record.specs.declared.Record.{Record}
 use Rattle.record.specs.declared.Reading.{Reading}
@@ -15,14 +15,14 @@ use Rattle.record.specs.declared.Reading.the-variants.{Given, Refused}
 -- the second byte of the mark, whose first is 4E, and how many bytes each field of a record takes
 pub record Form : Type 0 where
   pub letter : ℕ
-  pub widths : List ℕ
+  pub fieldBytes : List ℕ
 
 -- mark 4E 46, which is NF in ASCII
 abbrev pub formNF : Form
-formNF = record { letter = 0x46; widths = 4 ∷ 2 ∷ 2 ∷ 1 ∷ 4 ∷ 4 ∷ 4 ∷ 4 ∷ 4 ∷ 4 ∷ [] }
+formNF = record { letter = 0x46; fieldBytes = 4 ∷ 2 ∷ 2 ∷ 1 ∷ 4 ∷ 4 ∷ 4 ∷ 4 ∷ 4 ∷ 4 ∷ [] }
 
 abbrev pub sizeOf : Form → ℕ
-sizeOf f = 2 + widthSum (f .widths)
+sizeOf f = 2 + byteSum (f .fieldBytes)
 
 -- ---- a record as numbers
 
@@ -48,7 +48,7 @@ recordOf xs =
 -- ---- writing
 
 unfoldable pub bytesAs : Form → Record → List ℕ
-bytesAs f r = 0x4E ∷ f .letter ∷ bytesIn (f .widths) (fieldsOf r)
+bytesAs f r = 0x4E ∷ f .letter ∷ bytesIn (f .fieldBytes) (fieldsOf r)
 
 -- a number, 0 for none, and the lent bytes as they are then
 pub record Written : Type 0 where
@@ -70,7 +70,7 @@ marked f l = eqb (getD l 0 0) 0x4E && eqb (getD l 1 0) (f .letter)
 
 -- what stands behind the mark
 abbrev pub recordIn : Form → List ℕ → Record
-recordIn f l = recordOf (numbersIn (f .widths) (drop 2 l))
+recordIn f l = recordOf (numbersIn (f .fieldBytes) (drop 2 l))
 
 abbrev pub judged : Record → Reading
 judged r = cond (allowed r) (Given r) (Refused 19)

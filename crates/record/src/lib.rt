@@ -167,20 +167,14 @@ pub fn read(bytes: &[u8]) -> Reading
 
 // ---- writing
 
-const WIDTHS: [u8; 10] = [4, 2, 2, 1, 4, 4, 4, 4, 4, 4];
+const FIELD_BYTES: [usize; 10] = [4, 2, 2, 1, 4, 4, 4, 4, 4, 4];
 
 // How many bytes field k takes.
-fn width(k: usize) -> usize
+fn field_bytes(k: usize) -> usize
     requires { ⌜ k < 10 ⌝ }
-    ensures { λ r. ⌜ r ≡ getD (formNF .widths) k 0 ⌝ }
+    ensures { λ r. ⌜ r ≡ getD (formNF .fieldBytes) k 0 ⌝ }
 {
-    count(WIDTHS[k])
-}
-
-fn count(x: u8) -> usize
-    ensures { λ r. ⌜ r ≡ x ⌝ }
-{
-    x as usize
+    FIELD_BYTES[k]
 }
 
 // The ten fields in the order of their bytes.
@@ -205,15 +199,15 @@ pub fn fields(r: Record) -> [u64; 10]
 fn put_fields(out: &mut [u8], xs: [u64; 10])
     requires { ⌜ 35 ≤ length (now out) ⌝ }
     ensures { λ _. ⌜ now (out .exit)
-        ≡ (take 2 (now (out .entry)) ++ bytesIn (formNF .widths) xs) ++ drop 35 (now (out .entry)) ⌝ }
+        ≡ (take 2 (now (out .entry)) ++ bytesIn (formNF .fieldBytes) xs) ++ drop 35 (now (out .entry)) ⌝ }
 {
     let mut at = 2;
     let mut k = 0;
     while k < 10 {
-        let bytes = width(k);
+        let count = field_bytes(k);
         let x = xs[k];
-        little_endian::put(out, at, bytes, x);
-        at += bytes;
+        little_endian::put(out, at, count, x);
+        at += count;
         k += 1;
     }
 }

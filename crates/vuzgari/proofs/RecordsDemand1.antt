@@ -26,7 +26,7 @@ module _ (shot w h : ℕ) (answer out : List ℕ) where
         only = inr (inl refl);
         four = (λ _. l, λ _. refl);
         broken = (λ e. absurd (omega arith), λ p. absurd (omega (arith, p .0)));
-        short = (λ e. absurd (omega arith), λ p. absurd (omega (arith, p .0)));
+        no-room = (λ e. absurd (omega arith), λ p. absurd (omega (arith, p .0)));
         taken = (λ e. absurd (omega arith), λ p. absurd (omega (arith, p .0)));
         stays = λ _. refl;
         changes = λ e. absurd (omega arith);
@@ -39,7 +39,7 @@ module _ (shot w h : ℕ) (answer out : List ℕ) where
         only = all (m .only);
         four = (λ e. absurd (not-four (m .only) e), λ p. absurd (omega arith));
         broken = (λ e. (l, m .broken .0 e), λ p. m .broken .1 (p .1));
-        short = (λ e. let p = m .short .0 e in (l, p .0, p .1), λ p. m .short .1 (p .1, p .2));
+        no-room = (λ e. let p = m .no-room .0 e in (l, p .0, p .1), λ p. m .no-room .1 (p .1, p .2));
         taken = (λ e. let p = m .taken .0 e in (l, p .0, p .1), λ p. m .taken .1 (p .1, p .2));
         stays = m .stays;
         changes = m .changes;
@@ -70,7 +70,7 @@ module _ (bytes fields : List ℕ) where
       record {
         only = inr (inl refl);
         four = (λ _. l, λ _. refl);
-        short = (λ e. absurd (omega arith), λ p. absurd (omega (arith, p .0)));
+        cut-short = (λ e. absurd (omega arith), λ p. absurd (omega (arith, p .0)));
         mark = (λ e. absurd (omega arith), λ p. absurd (omega (arith, p .0)));
         broken = (λ e. absurd (omega arith), λ p. absurd (omega (arith, p .0)));
         given = (λ e. absurd (omega arith), λ p. absurd (omega (arith, p .0)));
@@ -126,7 +126,7 @@ module _ (bytes fields : List ℕ) where
             λ z. absurd (by-case {Q = ⊥} (λ n _. omega arith) (λ n _. omega arith) (λ n _. omega arith) (λ n _. omega arith)),
             λ p. absurd (omega arith),
           );
-          short = (λ z. (l, m .short .0 (is-18 z)), λ p. numbers (m .short .1 (p .1)));
+          cut-short = (λ z. (l, m .cut-short .0 (is-18 z)), λ p. numbers (m .cut-short .1 (p .1)));
           mark = (λ z. let p = m .mark .0 (is-17 z) in (l, p .0, p .1), λ p. numbers (m .mark .1 (p .1, p .2)));
           broken = (
             λ z. let p = m .broken .0 (is-19 z) in (l, p .0, p .1, p .2),

@@ -44,7 +44,7 @@ pub record WriteAtC (shot w h : ℕ) (answer out : List ℕ) (x : Written) : Typ
   pub only : (x .number ≡ 0) ⊎ (x .number ≡ 4) ⊎ (x .number ≡ 18) ⊎ (x .number ≡ 19)
   pub four : (x .number ≡ 4) ↔ (length answer < 40)
   pub broken : (x .number ≡ 19) ↔ ((40 ≤ length answer) × (Allowed (recordFrom shot w h answer) → ⊥))
-  pub short : (x .number ≡ 18) ↔ ((40 ≤ length answer) × Allowed (recordFrom shot w h answer) × (length out < 35))
+  pub no-room : (x .number ≡ 18) ↔ ((40 ≤ length answer) × Allowed (recordFrom shot w h answer) × (length out < 35))
   pub taken : (x .number ≡ 0) ↔ ((40 ≤ length answer) × Allowed (recordFrom shot w h answer) × (35 ≤ length out))
   -- a refused call changes no byte
   pub stays : (x .number ≡ 0 → ⊥) → x .bytes ≡ out
@@ -56,7 +56,7 @@ pub record ReadAtC (bytes fields : List ℕ) (x : Shown) : Type 0 where
   -- no other number than 0, 4, 17, 18 and 19
   pub only : (x .number ≡ 0) ⊎ (x .number ≡ 4) ⊎ (x .number ≡ 17) ⊎ (x .number ≡ 18) ⊎ (x .number ≡ 19)
   pub four : (x .number ≡ 4) ↔ (length fields < 10)
-  pub short : (x .number ≡ 18) ↔ ((10 ≤ length fields) × (length bytes < 35))
+  pub cut-short : (x .number ≡ 18) ↔ ((10 ≤ length fields) × (length bytes < 35))
   pub mark : (x .number ≡ 17) ↔ ((10 ≤ length fields) × (35 ≤ length bytes) × (Marked formNF bytes → ⊥))
   pub broken : (x .number ≡ 19)
       ↔ ((10 ≤ length fields) × (35 ≤ length bytes) × Marked formNF bytes × (Allowed (recordIn formNF bytes) → ⊥))

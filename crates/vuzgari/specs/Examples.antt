@@ -40,36 +40,36 @@ bytes-kept = refl
 
 -- ---- records
 
--- the answer slice of a 4 by 4 image, whose one window is in the first band: the number by its two low bytes; milli 99, rounds 98
--- and passes 97, which no record keeps; and one byte beyond
-abbrev oneWindow : ℕ → ℕ → List ℕ
-oneWindow low high =
-    low ∷ high ∷ 0 ∷ 0 ∷ 0 ∷ 0 ∷ 0 ∷ 0 ∷ 99 ∷ 0 ∷ 0 ∷ 0 ∷ 1 ∷ 0 ∷ 0 ∷ 0 ∷ 0 ∷ 0 ∷ 0 ∷ 0 ∷ 0 ∷ 0 ∷ 0 ∷ 0 ∷ 0 ∷ 0 ∷ 0 ∷ 0 ∷ 0
+-- the answer slice of a 5 by 4 image, of whose two windows one is in the first band and one was dropped: the number by its two
+-- low bytes; milli 99, rounds 98 and passes 97, which no record keeps; and one byte beyond
+abbrev twoWindows : ℕ → ℕ → List ℕ
+twoWindows low high =
+    low ∷ high ∷ 0 ∷ 0 ∷ 0 ∷ 0 ∷ 0 ∷ 0 ∷ 99 ∷ 0 ∷ 0 ∷ 0 ∷ 1 ∷ 0 ∷ 0 ∷ 0 ∷ 0 ∷ 0 ∷ 0 ∷ 0 ∷ 0 ∷ 0 ∷ 0 ∷ 0 ∷ 0 ∷ 0 ∷ 0 ∷ 0 ∷ 1
     ∷ 0 ∷ 0 ∷ 0 ∷ 98 ∷ 0 ∷ 0 ∷ 0 ∷ 97 ∷ 0 ∷ 0 ∷ 0 ∷ 9 ∷ []
 
 -- its record for shot 7
 abbrev logBytes : List ℕ
-logBytes = 0x4E ∷ 0x46 ∷ 7 ∷ 0 ∷ 0 ∷ 0 ∷ 4 ∷ 0 ∷ 4 ∷ 0 ∷ 5 ∷ 0 ∷ 0 ∷ 0 ∷ 0 ∷ 1 ∷ replicate 19 0
+logBytes = 0x4E ∷ 0x46 ∷ 7 ∷ 0 ∷ 0 ∷ 0 ∷ 5 ∷ 0 ∷ 4 ∷ 0 ∷ 5 ∷ 0 ∷ 0 ∷ 0 ∷ 0 ∷ 1 ∷ (replicate 15 0 ++ (1 ∷ 0 ∷ 0 ∷ 0 ∷ []))
 
-pub record-written : writtenFor 7 4 4 (oneWindow 5 0) (replicate 36 8) ≡ record { number = 0; bytes = logBytes ++ (8 ∷ []) }
+pub record-written : writtenFor 7 5 4 (twoWindows 5 0) (replicate 36 8) ≡ record { number = 0; bytes = logBytes ++ (8 ∷ []) }
 unfolding writtenFor writtenAs bytesAs bytesIn bytesOf valueOf allowed storedAnswer sigmaTaken countsTaken placesOf stepOf
 record-written = refl
 
--- a width of 65,540 or an answer of 256 + 5 is not cut to what fits
-pub not-cut : (writtenFor 7 65540 4 (oneWindow 5 0) (replicate 36 8) ≡ record { number = 19; bytes = replicate 36 8 })
-    × (writtenFor 7 4 4 (oneWindow 5 1) (replicate 36 8) ≡ record { number = 19; bytes = replicate 36 8 })
+-- a width of 65,541 or an answer of 256 + 5 is not cut to what fits
+pub not-cut : (writtenFor 7 65541 4 (twoWindows 5 0) (replicate 36 8) ≡ record { number = 19; bytes = replicate 36 8 })
+    × (writtenFor 7 5 4 (twoWindows 5 1) (replicate 36 8) ≡ record { number = 19; bytes = replicate 36 8 })
 unfolding writtenFor writtenAs valueOf allowed storedAnswer
 not-cut = (refl, refl)
 
 -- 4, then 19, then 18: no side is allowed and there is no room; then one cause less each
-pub write-order : (writtenFor 7 0 0 (replicate 39 0) [] .number ≡ 4) × (writtenFor 7 0 0 (oneWindow 5 0) [] .number ≡ 19)
-    × (writtenFor 7 4 4 (oneWindow 5 0) (replicate 34 8) .number ≡ 18)
+pub write-order : (writtenFor 7 0 0 (replicate 39 0) [] .number ≡ 4) × (writtenFor 7 0 0 (twoWindows 5 0) [] .number ≡ 19)
+    × (writtenFor 7 5 4 (twoWindows 5 0) (replicate 34 8) .number ≡ 18)
 unfolding writtenFor writtenAs valueOf allowed storedAnswer sigmaTaken countsTaken placesOf stepOf
 write-order = (refl, refl, refl)
 
 -- two fields beyond stay
 pub record-read : readFor logBytes (replicate 12 8)
-    ≡ record { number = 0; fields = 7 ∷ 4 ∷ 4 ∷ 5 ∷ 0 ∷ 1 ∷ 0 ∷ 0 ∷ 0 ∷ 0 ∷ 8 ∷ 8 ∷ [] }
+    ≡ record { number = 0; fields = 7 ∷ 5 ∷ 4 ∷ 5 ∷ 0 ∷ 1 ∷ 0 ∷ 0 ∷ 0 ∷ 1 ∷ 8 ∷ 8 ∷ [] }
 unfolding readFor readAs numbersIn valueOf allowed storedAnswer sigmaTaken countsTaken placesOf stepOf
 record-read = refl
 

@@ -34,7 +34,7 @@ returns c =
     let first = c .before .before .before .before .before .before in
     ap (λ (l : List ℕ). set (set l 0 0x4E) 1 0x46) (c .before .before .put-fields .ensures)
     ∙ over-two (first .args .out .now) _ _ 0x4E 0x46 (omega (arith, first .pre))
-    ∙ ap (λ (xs : List ℕ). (0x4E ∷ 0x46 ∷ bytesIn (formNF .widths) xs) ++ drop 35 (first .args .out .now)) (c .before .before .before .fields .ensures)
+    ∙ ap (λ (xs : List ℕ). (0x4E ∷ 0x46 ∷ bytesIn (formNF .fieldBytes) xs) ++ drop 35 (first .args .out .now)) (c .before .before .before .fields .ensures)
 
 pub put-spec : {M : Type 1} → statement M
 put-spec = tie.close (tie.spec fields-requires put-fields-requires slice-write-out slice-write-out-2 same-length returns)

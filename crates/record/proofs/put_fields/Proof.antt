@@ -9,7 +9,7 @@ use Rattle.record.proofs.put_fields.Statement.{statement}
 use Rattle.record.proofs.put_fields.Tie as tie
 
 abbrev Inv-loop : tie.InvT-loop
-Inv-loop out₀ xs at₀ k₀ out at k = Laying (formNF .widths) xs out₀ at k out
+Inv-loop out₀ xs at₀ k₀ out at k = Laying (formNF .fieldBytes) xs out₀ at k out
 
 abbrev μ-loop : tie.MeasureT-loop
 μ-loop out₀ xs at₀ k₀ out at k = 10 - k
@@ -20,8 +20,8 @@ inside c = omega (arith, c .before .before .before .good .1 .0 .1 .0 .1, c .loop
 loop-holds : tie.Need-loop-holds Inv-loop μ-loop
 loop-holds c = lay-start
 
-width-requires : tie.Need-width-requires Inv-loop μ-loop
-width-requires c κs = omega arith
+field-bytes-requires : tie.Need-field-bytes-requires Inv-loop μ-loop
+field-bytes-requires c κs = omega arith
 
 mul-x : tie.Need-mul-x Inv-loop μ-loop
 mul-x c = omega arith
@@ -32,14 +32,14 @@ array-read-x c = omega arith
 put-requires : tie.Need-put-requires Inv-loop μ-loop
 put-requires c κs =
     let turn = c .before .before in
-    lay-room (turn .before .loop .inv) (turn .loop-test .taken) (inside turn) (c .before .width .ensures) (turn .before .before .before .pre)
+    lay-room (turn .before .loop .inv) (turn .loop-test .taken) (inside turn) (c .before .field-bytes .ensures) (turn .before .before .before .pre)
 
 add-at : tie.Need-add-at Inv-loop μ-loop
 add-at c =
     let sized = c .before .before .before .before in
     let turn = sized .before in
     let inv = turn .before .loop .inv in
-    omega (arith, lay-room inv (turn .loop-test .taken) (inside turn) (sized .width .ensures) (turn .before .before .before .pre), inv .long)
+    omega (arith, lay-room inv (turn .loop-test .taken) (inside turn) (sized .field-bytes .ensures) (turn .before .before .before .pre), inv .long)
 
 add-k : tie.Need-add-k Inv-loop μ-loop
 add-k c = omega arith
@@ -51,7 +51,7 @@ loop-again : tie.Need-loop-again Inv-loop μ-loop
 loop-again c =
     let sized = c .before .before .before .before in
     let turn = sized .before in
-    lay-turn (turn .before .loop .inv) (turn .loop-test .taken) (inside turn) (sized .width .ensures) (turn .before .before .before .pre) refl
+    lay-turn (turn .before .loop .inv) (turn .loop-test .taken) (inside turn) (sized .field-bytes .ensures) (turn .before .before .before .pre) refl
     (c .before .before .put .ensures)
 
 same-length : tie.Need-same-length Inv-loop μ-loop
@@ -67,7 +67,7 @@ put-fields-spec =
     Inv-loop
     μ-loop
     loop-holds
-    width-requires
+    field-bytes-requires
     mul-x
     array-read-x
     put-requires

@@ -57,7 +57,7 @@ returns c =
     let shot = width .before in
     same (shot .get .ensures) (width .get-side .ensures) (height .get-side2 .ensures) (answer .get2 .ensures) (sigma .get3 .ensures)
     (b0 .get4 .ensures) (b1 .get5 .ensures) (b2 .get6 .ensures) (b3 .get7 .ensures) (c .get8 .ensures)
-    ∙ ap recordOf (numbers-at (formNF .widths) 2 (shot .before .before .args .bytes .now) (shot .before .before .pre))
+    ∙ ap recordOf (numbers-at (formNF .fieldBytes) 2 (shot .before .before .args .bytes .now) (shot .before .before .pre))
 
 pub record-in-spec : {M : Type 1} → statement M
 record-in-spec =
