@@ -124,7 +124,8 @@ int main(int argc, char **argv)
         stop(argv[1]);
     }
     if (fflush(stdout) != 0 || ferror(stdout)) {
-        stop("standard output");
+        fputs("log: standard output could not be written\n", stderr);
+        return 2;
     }
     return 0;
 }

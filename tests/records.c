@@ -113,7 +113,7 @@ static size_t put(uint8_t *bytes, size_t at, size_t count, uint64_t value)
     return at + count;
 }
 
-static const size_t widths[FIELDS] = {4, 2, 2, 1, 4, 4, 4, 4, 4, 4};
+static const size_t field_bytes[FIELDS] = {4, 2, 2, 1, 4, 4, 4, 4, 4, 4};
 
 static void bytes_of(const struct shot *shot, uint8_t *bytes)
 {
@@ -121,7 +121,7 @@ static void bytes_of(const struct shot *shot, uint8_t *bytes)
     fields_of(shot, fields);
     size_t at = put(bytes, 0, 2, 0x464E);
     for (size_t k = 0; k < FIELDS; k++) {
-        at = put(bytes, at, widths[k], fields[k]);
+        at = put(bytes, at, field_bytes[k], fields[k]);
     }
 }
 

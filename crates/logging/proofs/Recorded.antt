@@ -19,13 +19,13 @@ use Rattle.record.specs.Demand1.{WriteMeets}
 use Rattle.record.specs.RoundTrip.{Typed}
 use Rattle.record.proofs.Demand1.{write-meets}
 use Rattle.record.proofs.RoundTrip.{read-written}
-use Rattle.logging.specs.Logging.{recordOfAnswer, recordFrom, SameKept}
+use Rattle.logging.specs.Logging.{recordOfAnswer, recordFrom, SameForRecord}
 use Rattle.logging.specs.Recorded.{Recorded}
 use Rattle.logging.proofs.Answers.{keeps-rule, number-fits, sigma-fits, counts-fit}
 
 -- what a record does not keep is not looked at
-pub by-kept : (shot w h : ℕ) {l m : List ℕ} → SameKept l m → recordFrom shot w h l ≡ recordFrom shot w h m
-by-kept shot w h s =
+pub same-for-record : (shot w h : ℕ) {l m : List ℕ} → SameForRecord l m → recordFrom shot w h l ≡ recordFrom shot w h m
+same-for-record shot w h s =
     λ i. record {
       shot = shot;
       width = w;

@@ -45,7 +45,7 @@ recordFrom shot w h bytes =
     }
 
 -- two answer slices with the same number, sigma, bands and rail, whatever else they hold
-pub record SameKept (l m : List ℕ) : Type 0 where
+pub record SameForRecord (l m : List ℕ) : Type 0 where
   pub number : fieldAt l 0 ≡ fieldAt m 0
   pub sigma : fieldAt l 1 ≡ fieldAt m 1
   pub b0 : fieldAt l 3 ≡ fieldAt m 3

@@ -17,7 +17,7 @@ use Rattle.record.specs.Rule.{Allowed, allowed}
 use Rattle.record.specs.Records.{Form, sizeOf, Written, writtenAs, marked, recordIn, readAs}
 use Rattle.record.specs.Demand1.{Marked, WriteMeets, ReadMeets}
 use Rattle.record.proofs.Judging.{allowed-iff}
-use Rattle.record.proofs.Readings.{short, foreign, broken, given}
+use Rattle.record.proofs.Readings.{cut-short, foreign, broken, given}
 use Rattle.record.proofs.Writing.{refused, no-room, done}
 
 -- a test that fails, in words
@@ -100,7 +100,7 @@ module _ (f : Form) (l : List ℕ) where
     where
       too-short : length l < sizeOf f → ReadMeets f l (readAs f l)
       too-short h =
-          let e = sym (short f l h) in
+          let e = sym (cut-short f l h) in
           record {
             only = inr (inr (inl e));
             cut-short = (λ _. h, λ _. e);

@@ -1,13 +1,13 @@
--- Numbers laid out in counts of bytes and read from them again: each undoes the other.
-use mathlib.Core.Path.{_≡_, refl, sym, ap, _∙_, subst}
+-- Numbers laid out by their sizes and read again: each undoes the other.
+use mathlib.Core.Path.{_≡_, refl, sym, ap, _∙_}
 use mathlib.Core.List.{List, [], _∷_, _++_, append-assoc}
-use Prim.Native.Nat.{ℕ, _+_, _-_, _^_, _≤_, _<_}
+use Prim.Native.Nat.{ℕ, _+_, _≤_, _<_}
 use native.Mathlib.Omega.{arith}
 use lib.ListN.{length, take, drop, length-append, length-drop}
 use lib.Seq.{slice, take-at, drop-at, take-add, length-take-le, take-append-le, drop-append-le, drop-drop}
 use Rattle.laws.proofs.Each.{each-take, each-drop}
 use Rattle.little_endian.specs.Bytes.{bytesOf, valueOf, Bytes}
-use Rattle.little_endian.proofs.Laws.{length-bytes, value-bytes, bytes-value, value-lt}
+use Rattle.little_endian.proofs.Laws.{length-bytes, value-bytes, bytes-value}
 use Rattle.record.specs.Layout.{bytesIn, numbersIn, byteSum, Fit}
 
 -- ---- a part of a list, cut from its start
@@ -43,7 +43,7 @@ bytes-numbers (n ∷ ns) l b h =
     ∙ ap (λ (k : List ℕ). take n l ++ k) (bytes-numbers ns (drop n l) (each-drop (λ b. b < 256) n l b) (omega (arith, length-drop n l)))
     ∙ sym (take-add n (byteSum ns) l)
 
--- only as many bytes are read as the counts are in all
+-- only as many bytes are read as the sizes are in all
 pub numbers-front : (ns l : List ℕ) (after : List ℕ) → byteSum ns ≤ length l → numbersIn ns (l ++ after) ≡ numbersIn ns l
 unfolding numbersIn
 numbers-front [] l after h = refl

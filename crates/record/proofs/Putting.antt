@@ -1,4 +1,4 @@
--- A loop that lays numbers in their counts of bytes one after the other, from place 2 on, and has laid k of them, up to place `at`.
+-- A loop that lays numbers by their sizes one after the other, from place 2 on, and has laid k of them, up to place `at`.
 use mathlib.Core.Path.{_≡_, refl, sym, ap, _∙_, subst}
 use mathlib.Core.List.{List, [], _∷_, _++_}
 use Prim.Native.Nat.{ℕ, _+_, _≤_, _<_}

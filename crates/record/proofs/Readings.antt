@@ -11,9 +11,9 @@ use Rattle.record.specs.Rule.{allowed}
 use Rattle.record.specs.Records.{Form, sizeOf, marked, recordIn, readAs}
 
 module _ (f : Form) (l : List ℕ) where
-  pub short : length l < sizeOf f → Refused 18 ≡ readAs f l
+  pub cut-short : length l < sizeOf f → Refused 18 ≡ readAs f l
   unfolding readAs
-  short h = rw (lt-ltb (length l) (sizeOf f) h) refl
+  cut-short h = rw (lt-ltb (length l) (sizeOf f) h) refl
 
   module _ (h : sizeOf f ≤ length l) where
     pub foreign : marked f l ≡ false → Refused 17 ≡ readAs f l

@@ -3,7 +3,7 @@ use mathlib.Core.Path.{_≡_, refl, sym, ap, _∙_}
 use mathlib.Core.Bool.{true, _&&_}
 use mathlib.Core.Logic.{inl, inr}
 use mathlib.Core.List.{List, [], _∷_, _++_}
-use Prim.Native.Nat.{ℕ, _+_, _≤_, _<_}
+use Prim.Native.Nat.{ℕ, _≤_, _<_}
 use native.Mathlib.Omega.{arith}
 use lib.Dec.{eqb}
 use lib.ListN.{length, getD, take, drop, length-append, length-drop, List·getD-append}
@@ -12,7 +12,6 @@ use borrow.Author.Tests.{le-ltb}
 use Rattle.laws.proofs.Each.{each-drop}
 use Rattle.little_endian.specs.Bytes.{Bytes}
 use Rattle.record.specs.declared.Record.{Record}
-use Rattle.record.specs.declared.Reading.{Reading}
 use Rattle.record.specs.declared.Reading.the-variants.{Given}
 use Rattle.record.specs.Layout.{bytesIn, numbersIn, Fit}
 use Rattle.record.specs.Rule.{AnswerStored, Allowed, allowed}

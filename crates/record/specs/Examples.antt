@@ -84,17 +84,17 @@ not-wrapped = refl
 abbrev sided : ℕ → ℕ → ℕ → Record
 sided w h n = record { shot = 0; width = w; height = h; answer = 5; sigma = 0; b0 = 0; b1 = 0; b2 = 0; b3 = 0; rail = n }
 
--- with the windows that the grid has there, or would have; 65,540 is not cut to 4
+-- with the windows that the grid has there, or would have; 65,540 by 4 with the one of 4 by 4, to which it is not cut
 pub sides : (allowed (sided 4 4 1) ≡ true) × (allowed (sided 3 4 0) ≡ false) × (allowed (sided 4 3 0) ≡ false)
     × (allowed (sided 16384 4 5461) ≡ true) × (allowed (sided 16385 4 5461) ≡ false)
-    × (allowed (sided 4 16385 1820) ≡ false) × (allowed (sided 65540 4 1) ≡ false)
+    × (allowed (sided 4 16384 1820) ≡ true) × (allowed (sided 4 16385 1820) ≡ false) × (allowed (sided 65540 4 1) ≡ false)
 unfolding allowed storedAnswer sigmaTaken countsTaken placesOf stepOf
-sides = (refl, refl, refl, refl, refl, refl, refl)
+sides = (refl, refl, refl, refl, refl, refl, refl, refl)
 
--- 2,049 by 4 and 4 by 2,049 have other windows
-pub upright : (allowed (sided 2049 4 1023) ≡ true) × (allowed (sided 4 2049 1023) ≡ false)
+-- at step 2, 2,049 by 4 has 1,023 windows and 4 by 2,049 has 511
+pub sides-not-exchanged : (allowed (sided 2049 4 1023) ≡ true) × (allowed (sided 4 2049 1023) ≡ false)
 unfolding allowed storedAnswer sigmaTaken countsTaken placesOf stepOf
-upright = (refl, refl)
+sides-not-exchanged = (refl, refl)
 
 -- ---- writing
 

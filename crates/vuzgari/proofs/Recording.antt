@@ -10,8 +10,8 @@ use Rattle.record.specs.declared.Record.{Record}
 use Rattle.record.specs.declared.Reading.{Reading}
 use Rattle.record.specs.declared.Reading.the-variants.{Given, Refused}
 use Rattle.record.specs.Records.{formNF, fieldsOf, Written, writtenAs, readAs}
-use Rattle.logging.specs.Logging.{recordFrom, SameKept}
-use Rattle.logging.proofs.Recorded.{by-kept}
+use Rattle.logging.specs.Logging.{recordFrom, SameForRecord}
+use Rattle.logging.proofs.Recorded.{same-for-record}
 use Rattle.vuzgari.specs.Records.{writtenFor, Shown, shownIn, readFor}
 
 -- ---- writing
@@ -39,9 +39,9 @@ module _ (shot w h : ℕ) (answer out : List ℕ) where
 
 -- milli, rounds and passes decide nothing
 pub not-looked-at : (shot w h : ℕ) (answer other out : List ℕ) → 40 ≤ length answer → 40 ≤ length other
-    → SameKept answer other → writtenFor shot w h answer out ≡ writtenFor shot w h other out
+    → SameForRecord answer other → writtenFor shot w h answer out ≡ writtenFor shot w h other out
 not-looked-at shot w h answer other out l m s =
-    from-40 shot w h answer out l ∙ ap (λ (r : Record). writtenAs formNF r out) (by-kept shot w h s)
+    from-40 shot w h answer out l ∙ ap (λ (r : Record). writtenAs formNF r out) (same-for-record shot w h s)
     ∙ sym (from-40 shot w h other out m)
 
 -- ---- reading

@@ -2,13 +2,13 @@
 use mathlib.Core.Path.{sym, _∙_}
 use borrow.Author.Tests.{not-true, not-false}
 use Rattle.record.specs.Records.{formNF}
-use Rattle.record.proofs.Readings.{short, foreign, broken, given}
+use Rattle.record.proofs.Readings.{cut-short, foreign, broken, given}
 use borrow.Author.Needs.{needs}
 use Rattle.record.proofs.read.Statement.{statement}
 use Rattle.record.proofs.read.Tie as tie
 
 returns : tie.Need-returns
-returns c = short formNF _ (c .if1 .taken)
+returns c = cut-short formNF _ (c .if1 .taken)
 
 marked-requires : tie.Need-marked-requires
 marked-requires c κs = search needs
