@@ -23,7 +23,7 @@ extern "C" {
 
 /* The version of this header; the archive has its own, vuzgari_version(). 0.n promises nothing to programs built with
    another n: a call that changes or comes raises it. */
-#define VUZGARI_VERSION "0.2"
+#define VUZGARI_VERSION "0.3"
 
 const char *vuzgari_version(void);
 
@@ -48,7 +48,10 @@ enum vuzgari_number {
     VUZGARI_MANY_PIXELS = 16,  /* there are over 4,096 pixels */
     VUZGARI_OTHER_MARK = 17,   /* the bytes do not begin with a record's mark */
     VUZGARI_SHORT_RECORD = 18, /* the slice is shorter than a record */
-    VUZGARI_BROKEN_RULE = 19   /* a field of the record breaks the rule */
+    VUZGARI_BROKEN_RULE = 19,  /* a field of the record breaks the rule */
+    VUZGARI_PGM_HEADER = 20,   /* the header is not that of a binary PGM file as the camera tool writes it */
+    VUZGARI_PGM_MAXIMUM = 21,  /* the PGM file's maximum is not 255 */
+    VUZGARI_PGM_RASTER = 22    /* the raster is not width x height bytes long */
 };
 
 /* The sentence of a number, as above, for a person; of any other number, that it is none. It stays valid for ever. */
@@ -130,6 +133,23 @@ struct vuzgari_record {
 
 /* The record in the first 10 fields that the reading call wrote. */
 struct vuzgari_record vuzgari_record_from(const uint64_t *fields);
+
+/* The longest header that a grey file may have, in bytes, and how many fields a header has. */
+#define VUZGARI_PGM_HEADER_BYTES 21
+#define VUZGARI_PGM_FIELDS 4
+
+/* Reads the header of a grey file, which is binary PGM, a subset: P5, one whitespace byte, the width, one, the height,
+   one, the maximum, one, and then the raster, a byte a pixel, and nothing more. Whitespace is hex 20, 09, 0D or 0A. A
+   number is 1 to 5 decimal digits, the first not 0. There are no comments. Lent are the file's first bytes, at least 21
+   or all that it has, and at least 4 fields. Returns the first of 4 (under 4 fields), 20, or 0, which says here that
+   there is a header. After 0 the first 4 of `fields` are the width, the height and the maximum, 1 to 99,999 each, and
+   the place of the raster's first byte. What is lent beyond is unchanged; after a refusal everything is. */
+uint32_t vuzgari_pgm_header(const uint8_t *front, size_t front_len, uint64_t *fields, size_t fields_len);
+
+/* Judges a grey file of file_len bytes by its first bytes, at least 21 or all that it has, which are all that is lent.
+   Returns the first of 20, 21, 22, or 0, which says here that what follows the header is a raster of width * height
+   bytes. Sides that the noise call refuses are taken. */
+uint32_t vuzgari_pgm_judge(const uint8_t *front, size_t front_len, size_t file_len);
 
 /* The width of the edges about the centre (cx, cy) of an image of w by h, row by row, in pixels, as the bits of a
    float; or VUZGARI_REFUSED plus the first of 1, 2, 8, 9. Lent are its w * h pixels. (ox, oy) is the image's origin:

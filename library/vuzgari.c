@@ -53,6 +53,12 @@ const char *vuzgari_reason(uint32_t number)
         return "the slice is shorter than a record";
     case VUZGARI_BROKEN_RULE:
         return "a field of the record breaks the rule";
+    case VUZGARI_PGM_HEADER:
+        return "the header is not that of a binary PGM file as the camera tool writes it";
+    case VUZGARI_PGM_MAXIMUM:
+        return "the PGM file's maximum is not 255";
+    case VUZGARI_PGM_RASTER:
+        return "the raster is not width x height bytes long";
     default:
         return "no such number";
     }

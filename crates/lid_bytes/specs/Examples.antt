@@ -73,9 +73,9 @@ unfolding remarkOf pgmOf beginsP5 numberedOf reasonOf decimalOf places
 too-small = refl
 
 pub of-pgm : remarkOf (asBytes "P5\n64 64\n255\n") 16
-    ≡ asBytes "lidnoise: the input begins with P5, as a binary PGM file does; lidnoise reads two bytes of width, two of height, low first, then the pixels\nlidnoise: no figure, number 16: there are over 4,096 pixels\n"
+    ≡ asBytes "lidnoise: the input begins with P5, as a binary PGM file does: pgmnoise reads those\nlidnoise: no figure, number 16: there are over 4,096 pixels\n"
 unfolding remarkOf pgmOf beginsP5 numberedOf reasonOf decimalOf places
 of-pgm = refl
 
-pub remark-room : remarkBytes ≡ 291
+pub remark-room : remarkBytes ≡ 235
 remark-room = refl

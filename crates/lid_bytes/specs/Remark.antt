@@ -12,7 +12,7 @@ unfoldable pub beginsP5 : List ℕ → Bool
 beginsP5 input = eqb (getD input 0 0) 80 && eqb (getD input 1 0) 53
 
 abbrev pub pgmLine : List ℕ
-pgmLine = asBytes "lidnoise: the input begins with P5, as a binary PGM file does; lidnoise reads two bytes of width, two of height, low first, then the pixels\n"
+pgmLine = asBytes "lidnoise: the input begins with P5, as a binary PGM file does: pgmnoise reads those\n"
 
 unfoldable pub pgmOf : List ℕ → List ℕ
 pgmOf input = cond (beginsP5 input) pgmLine []

@@ -21,7 +21,7 @@ const INPUT_BYTES: usize = 4 + MOST_PIXELS + 1;
 const REPORT_BYTES: usize = 260;
 
 // As many as a remark may take.
-const REMARK_BYTES: usize = 291;
+const REMARK_BYTES: usize = 235;
 
 // Room for an input.
 pub fn input_room() -> [u8; INPUT_BYTES]
@@ -120,7 +120,7 @@ fn put_pgm(input: &[u8], out: &mut [u8]) -> usize
         return text::put(
             out,
             0,
-            b"lidnoise: the input begins with P5, as a binary PGM file does; lidnoise reads two bytes of width, two of height, low first, then the pixels\n",
+            b"lidnoise: the input begins with P5, as a binary PGM file does: pgmnoise reads those\n",
         );
     }
     0

@@ -4,11 +4,11 @@ use Rattle.text.specs.Text.{asBytes}
 use Rattle.text.specs.Numerals.{places, decimalOf}
 use Rattle.reasons.specs.Reasons.{reasonOf, numberedOf, numberedBytes}
 
-pub ends : (reasonOf 0 ≡ "there is a figure") × (reasonOf 19 ≡ "a field of the record breaks the rule")
+pub ends : (reasonOf 0 ≡ "there is a figure") × (reasonOf 22 ≡ "the raster is not width x height bytes long")
 unfolding reasonOf
 ends = (refl, refl)
 
-pub past : (reasonOf 20 ≡ "no such number") × (reasonOf 4294967295 ≡ "no such number")
+pub past : (reasonOf 23 ≡ "no such number") × (reasonOf 4294967295 ≡ "no such number")
 unfolding reasonOf
 past = (refl, refl)
 

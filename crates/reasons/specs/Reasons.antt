@@ -34,6 +34,9 @@ sentences =
     ∷ (17, "the bytes do not begin with a record's mark")
     ∷ (18, "the slice is shorter than a record")
     ∷ (19, "a field of the record breaks the rule")
+    ∷ (20, "the header is not that of a binary PGM file as the camera tool writes it")
+    ∷ (21, "the PGM file's maximum is not 255")
+    ∷ (22, "the raster is not width x height bytes long")
     ∷ []
 
 -- the sentence beside a number; of a number that has none, that it is none

@@ -8,7 +8,7 @@ ghost use Rattle.reasons.specs.Reasons.{reasonBytes, reasonOf, numberedB
 ghost use Rattle.reasons.specs.Parts.{textOf, startsOf};
 
 // The sentences of the numbers from 0 up, one after the other.
-const SENTENCES: [u8; 961] = *b"\
+const SENTENCES: [u8; 1109] = *b"\
     there is a figure\
     a side is above 16,384\
     the pixel slice is not width x height long\
@@ -28,10 +28,13 @@ const SENTENCES: [u8; 961] = *b"\
     there are over 4,096 pixels\
     the bytes do not begin with a record's mark\
     the slice is shorter than a record\
-    a field of the record breaks the rule";
+    a field of the record breaks the rule\
+    the header is not that of a binary PGM file as the camera tool writes it\
+    the PGM file's maximum is not 255\
+    the raster is not width x height bytes long";
 
 // Where each begins, and after the last its end.
-const STARTS: [usize; 21] = [
+const STARTS: [usize; 24] = [
     0,
     17,
     39,
@@ -53,6 +56,9 @@ const STARTS: [usize; 21] = [
     890,
     924,
     961,
+    1033,
+    1066,
+    1109,
 ];
 
 // Lays a number's sentence, a part of such a text, over what stands from place `at` on, and answers where it ends.

@@ -71,7 +71,7 @@ only n j k a b = omega (arith, not-less n j k a b, not-less n k j b a)
 pub places-is : (n k : ℕ) → n < 18446744073709551616 → Fewest 10 1 n k → k ≡ places 19 n
 places-is n k h a = only n k (places 19 n) a (few 19 n (omega arith))
 
-length-digits : (b k n : ℕ) → length (digits b k n) ≡ k
+pub length-digits : (b k n : ℕ) → length (digits b k n) ≡ k
 length-digits b zero n = refl
 length-digits b (suc k) n = length-append (digits b k (n / b)) (glyph (n % b) ∷ []) ∙ last (length (digits b k (n / b))) k (length-digits b k (n / b))
   where

@@ -1,0 +1,64 @@
+-- What the program judges, in the words of document 02, and how it stands to the reader.
+use mathlib.Core.Path.{_≡_, refl, sym, ap, _∙_}
+use mathlib.Core.Bool.{Bool, true, false, cond, not, _||_}
+use mathlib.Core.Logic.{_↔_}
+use mathlib.Core.List.{List}
+use Prim.Native.Nat.{ℕ, _+_, _*_, _-_, _≤_, _<_}
+use native.Mathlib.Omega.{arith}
+use native.Mathlib.Nat.{mul-le-mul-left, mul-le-mul-right}
+use lib.Dec.{ltb, eqb}
+use lib.ListN.{length, drop, length-drop}
+use borrow.Author.Tests.{le-ltb, eq-eqb}
+use Rattle.noise.specs.Refusals.{refusalOf}
+use Rattle.lid_bytes.specs.Input.{mostPixels}
+use Rattle.pgm.specs.declared.Head.{Head}
+use Rattle.pgm.specs.declared.Head.the-variants.{Numbers, Missing}
+use Rattle.pgm.specs.declared.Pgm.{Pgm}
+use Rattle.pgm.specs.declared.Pgm.the-variants.{Image, Refused}
+use Rattle.pgm.specs.Grammar.{Headed}
+use Rattle.pgm.specs.Read.{headOf, judged, frontRead, readOf}
+use Rattle.pgm.proofs.Heads.{Sized, head-read, head-stands, head-sized}
+use Rattle.grey.specs.Grey.{greyJudged, greyParsed}
+use Rattle.grey.proofs.Parsing.{at-16, of-16, of-image}
+
+module _ (input : List ℕ) where
+  -- 16: a header stands at the front, its maximum is 255, and there are too many pixels, however long the raster is
+  pub is-16 : (greyParsed input ≡ Refused 16) ↔ ((w : ℕ) × (h : ℕ) × (raster : List ℕ) × Headed input w h 255 raster × (mostPixels < w * h))
+  unfolding greyParsed
+  is-16 = (
+    λ e.
+        let (w, h, s, t, n) = of-16 (length input) (headOf input) e in
+        let b = head-stands input w h 255 s t in
+        (w, h, b .raster, b .headed, n),
+    λ (w, h, raster, s, n). ap (greyJudged (length input)) (head-read s) ∙ at-16 (length input) w h 255 (length input - length raster) refl n,
+  )
+
+  -- any other file is judged as the reader judges it
+  pub as-read : (greyParsed input ≡ Refused 16 → ⊥) → greyParsed input ≡ readOf input
+  unfolding greyParsed readOf frontRead
+  as-read n = there (headOf input) n
+    where
+      by : (x : Pgm) (p q : Bool) → (cond (not p) (Refused 21) (cond q (Refused 16) x) ≡ Refused 16 → ⊥) → cond (not p) (Refused 21) (cond q (Refused 16) x) ≡ cond (not p) (Refused 21) x
+      by x true true n = absurd (n refl)
+      by x true false n = refl
+      by x false q n = refl
+
+      there : (H : Head) → (greyJudged (length input) H ≡ Refused 16 → ⊥) → greyJudged (length input) H ≡ judged (length input) H
+      there Missing n = refl
+      there (Numbers w h m s) n = by (cond (not (eqb (length input) (s + w * h))) (Refused 22) (Image w h s)) (eqb m 255) (ltb mostPixels (w * h)) n
+
+  -- of the noise call's own causes only 3 is left: a side above 16,384, pixels that are not w × h and short memory do not reach it
+  pub only-3 : (w h start : ℕ) → greyParsed input ≡ Image w h start → refusalOf (length (drop start input)) w h false ≡ cond (ltb w 4 || ltb h 4) 3 0
+  unfolding greyParsed refusalOf
+  only-3 w h start e =
+      rw (
+        le-ltb 16384 w (omega (arith, i .1, mul-le-mul-left {m = 1} {n = h} w (z .height .0))),
+        le-ltb 16384 h (omega (arith, i .1, mul-le-mul-right {m = 1} {n = w} h (z .width .0))),
+        eq-eqb (length (drop start input)) (w * h) (omega (arith, length-drop start input, i .2)),
+      ) refl
+    where
+      i : (headOf input ≡ Numbers w h 255 start) × (w * h ≤ mostPixels) × (length input ≡ start + w * h)
+      i = of-image (length input) (headOf input) w h start e
+
+      z : Sized input w h 255 start
+      z = head-sized input w h 255 start (i .0)

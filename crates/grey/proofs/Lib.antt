@@ -1,0 +1,4 @@
+pub mod Parsing
+pub mod Remarks
+pub mod Laws
+pub mod Reading

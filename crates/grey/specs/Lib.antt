@@ -1,0 +1,3 @@
+pub mod Remark
+pub mod Grey
+pub mod Examples

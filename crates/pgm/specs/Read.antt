@@ -1,0 +1,92 @@
+-- The reading of a file, from its front to its raster. Each part takes the bytes that are left and what goes on after it.
+use Prim.Native.Nat.{ℕ, _+_, _*_, _-_}
+use mathlib.Core.Bool.{Bool, cond, not, _&&_, _||_}
+use mathlib.Core.List.{List, [], _∷_}
+use lib.Dec.{leb, eqb}
+use lib.ListN.{length, getD, drop}
+use Rattle.pgm.specs.Grammar.{numberIn}
+use Rattle.pgm.specs.declared.Head.{Head}
+use Rattle.pgm.specs.declared.Head.the-variants.{Numbers, Missing}
+use Rattle.pgm.specs.declared.Pgm.{Pgm}
+use Rattle.pgm.specs.declared.Pgm.the-variants.{Image, Refused}
+
+-- how a file opens: with a header's width, height and maximum, and then the bytes after it; or with no header
+pub data Opening : Type 0 where
+  split : ℕ → ℕ → ℕ → List ℕ → Opening
+  none : Opening
+
+abbrev pub isWhite : ℕ → Bool
+isWhite b = eqb b 32 || (eqb b 9 || (eqb b 13 || eqb b 10))
+
+abbrev pub isDigit : ℕ → Bool
+isDigit b = leb 48 b && leb b 57
+
+-- the digits at the front, as many as there are
+abbrev pub digitsOf : List ℕ → List ℕ
+digitsOf [] = []
+digitsOf (b ∷ l) = cond (isDigit b) (b ∷ digitsOf l) []
+
+-- what stands after them
+abbrev pub pastDigits : List ℕ → List ℕ
+pastDigits [] = []
+pastDigits (b ∷ l) = cond (isDigit b) (pastDigits l) (b ∷ l)
+
+-- 1 to 5 of them, the first not 0
+abbrev pub isNumeral : List ℕ → Bool
+isNumeral d = leb 1 (length d) && (leb (length d) 5 && not (eqb (getD d 0 0) 48))
+
+unfoldable pub byte : ℕ → List ℕ → (List ℕ → Opening) → Opening
+byte x [] go = none
+byte x (b ∷ l) go = cond (eqb b x) (go l) none
+
+unfoldable pub white : List ℕ → (List ℕ → Opening) → Opening
+white [] go = none
+white (b ∷ l) go = cond (isWhite b) (go l) none
+
+unfoldable pub number : List ℕ → (ℕ → List ℕ → Opening) → Opening
+number l go = cond (isNumeral (digitsOf l)) (go (numberIn (digitsOf l)) (pastDigits l)) none
+
+-- a number and one whitespace byte
+abbrev pub field : List ℕ → (ℕ → List ℕ → Opening) → Opening
+field l go = number l λ n l. white l (go n)
+
+-- `P5`, whitespace, width, whitespace, height, whitespace, maximum, whitespace, and what is left
+unfoldable pub headerOf : List ℕ → Opening
+headerOf file = byte 80 file λ l. byte 53 l λ l. white l λ l. field l λ w l. field l λ h l. field l λ m raster. split w h m raster
+
+-- the header at a file's front by its numbers and the place after it
+abbrev pub headBy : List ℕ → Opening → Head
+headBy file (split w h m left) = Numbers w h m (length file - length left)
+headBy file none = Missing
+
+unfoldable pub headOf : List ℕ → Head
+headOf file = headBy file (headerOf file)
+
+-- the longest header: `P5`, four whitespace bytes, three times five digits
+abbrev pub headerBytes : ℕ
+headerBytes = 2 + 4 + 3 * 5
+
+-- a file of `len` bytes by its header: 20 where there is none, 21 where the maximum is not 255, 22 where the raster, all that follows
+-- the header, is not w × h bytes: the first that applies
+abbrev pub judged : ℕ → Head → Pgm
+judged len Missing = Refused 20
+judged len (Numbers w h m start) =
+    cond (not (eqb m 255)) (Refused 21)
+    (cond (not (eqb len (start + w * h))) (Refused 22)
+    (Image w h start))
+
+-- by its first bytes, as far as they reach
+unfoldable pub frontRead : List ℕ → ℕ → Pgm
+frontRead front len = judged len (headOf front)
+
+-- a whole file
+unfoldable pub readOf : List ℕ → Pgm
+readOf file = frontRead file (length file)
+
+-- the raster of a file that is read, and nothing of one that is refused
+abbrev pub rasterBy : List ℕ → Pgm → List ℕ
+rasterBy file (Image w h start) = drop start file
+rasterBy file (Refused n) = []
+
+unfoldable pub rasterOf : List ℕ → List ℕ
+rasterOf file = rasterBy file (readOf file)
