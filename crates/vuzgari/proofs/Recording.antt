@@ -2,10 +2,8 @@
 use mathlib.Core.Path.{_≡_, refl, sym, ap, _∙_}
 use mathlib.Core.List.{List, _++_}
 use Prim.Native.Nat.{ℕ, _≤_, _<_}
-use lib.ListN.{length, getD, drop}
+use lib.ListN.{length, drop}
 use borrow.Author.Tests.{lt-ltb, le-ltb}
-use Rattle.laws.specs.Lists.{from}
-use Rattle.laws.proofs.Fill.{from-get}
 use Rattle.record.specs.declared.Record.{Record}
 use Rattle.record.specs.declared.Reading.{Reading}
 use Rattle.record.specs.declared.Reading.the-variants.{Given, Refused}
@@ -45,10 +43,6 @@ not-looked-at shot w h answer other out l m s =
     ∙ sym (from-40 shot w h other out m)
 
 -- ---- reading
-
--- ten elements by their indices are the list
-pub all-ten : (xs : List ℕ) → length xs ≡ 10 → from (λ k. getD xs k 0) 0 10 ≡ xs
-all-ten xs e = ap (λ (n : ℕ). from (λ k. getD xs k 0) 0 n) (sym e) ∙ from-get 0 xs
 
 module _ (bytes fields : List ℕ) where
   abbrev Shows : ℕ → List ℕ → Type 0

@@ -1,6 +1,7 @@
 pub mod Codes
 pub mod Noise
 pub mod Records
+pub mod Grey
 pub mod Demand1
 pub mod Logged
 pub mod Examples

@@ -9,6 +9,10 @@ ghost use Rattle.noise.specs.Call.{leftInts, leftFloats};
 ghost use Rattle.vuzgari.specs.Codes.{sizeCode, widthCode};
 ghost use Rattle.vuzgari.specs.Noise.{noiseFor, leftBytes};
 ghost use Rattle.vuzgari.specs.Records.{writtenFor, readFor};
+ghost use Rattle.vuzgari.specs.Grey.{headerIn, numberFor};
+ghost use Rattle.pgm.specs.Read.{frontRead};
+use pgm::Head;
+use pgm::Pgm;
 use record::Reading;
 use tile::EdgeWidth;
 
@@ -102,13 +106,13 @@ pub extern "C" fn vuzgari_record_write(
     record::write(r, out)
 }
 
-// Ten numbers from the front on. Those beyond stay.
-fn show_fields(fields: &mut [u64], xs: [u64; 10])
-    requires { ⌜ 10 ≤ length (now fields) ⌝ }
-    ensures { λ _. ⌜ now (fields .exit) ≡ xs ++ drop 10 (now (fields .entry)) ⌝ }
+// Numbers from the front on. Those beyond stay.
+fn show_fields(fields: &mut [u64], xs: &[u64])
+    requires { ⌜ length (now xs) ≤ length (now fields) ⌝ }
+    ensures { λ _. ⌜ now (fields .exit) ≡ now (xs .entry) ++ drop (length (now (xs .entry))) (now (fields .entry)) ⌝ }
 {
     let mut k = 0;
-    while k < 10 {
+    while k < xs.len() {
         let x = xs[k];
         fields[k] = x;
         k += 1;
@@ -127,9 +131,41 @@ pub extern "C" fn vuzgari_record_read(bytes: &[u8], fields: &mut [u64]) -> u32
     }
     match record::read(bytes) {
         Reading::Given(r) => {
-            show_fields(fields, record::fields(r));
+            let xs = record::fields(r);
+            show_fields(fields, &xs);
             0
         }
         Reading::Refused(n) => n,
+    }
+}
+
+// Reads the header of a grey file from its first bytes into four fields: 4 where fewer are lent, then 20. A refused call changes
+// nothing; fields past four stay.
+#[no_mangle]
+pub extern "C" fn vuzgari_pgm_header(front: &[u8], fields: &mut [u64]) -> u32
+    ensures { λ n. ⌜ (n ≡ headerIn (now (front .entry)) (now (fields .entry)) .number)
+        × (now (fields .exit) ≡ headerIn (now (front .entry)) (now (fields .entry)) .fields) ⌝ }
+{
+    if fields.len() < 4 {
+        return 4;
+    }
+    match pgm::header(front) {
+        Head::Numbers(w, h, m, start) => {
+            let xs = [w as u64, h as u64, m as u64, start as u64];
+            show_fields(fields, &xs);
+            0
+        }
+        Head::Missing => 20,
+    }
+}
+
+// Judges a grey file of `len` bytes by its first bytes: 20, 21, 22, or 0 where it holds an image.
+#[no_mangle]
+pub extern "C" fn vuzgari_pgm_judge(front: &[u8], len: usize) -> u32
+    ensures { λ r. ⌜ r ≡ numberFor (frontRead (now (front .entry)) len) ⌝ }
+{
+    match pgm::read_front(front, len) {
+        Pgm::Image(_, _, _) => 0,
+        Pgm::Refused(n) => n,
     }
 }

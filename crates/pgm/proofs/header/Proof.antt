@@ -60,8 +60,8 @@ returns-3 c =
     let file = now (m .before .before .args .file) in
     head-missing file
     (no-height file (sym (m .is-marked .ensures) ∙ not-false (m .is-marked .result) (e .if1 .left)) (v1 .width .given .0 .0) (v1 .width .given .0 .1 .0)
-          (goes file 3 (f1 .field-at .result) (v1 .width .given .0 .0) (v1 .width .given .0 .1 .0) (f1 .field-at .ensures .0) (v1 .width .given .1))
-          (lost file (v1 .width .given .0 .1 .0) (f2 .field-at2 .result) (f2 .field-at2 .ensures .0) (c .enum-told2 .given .1)))
+    (goes file 3 (f1 .field-at .result) (v1 .width .given .0 .0) (v1 .width .given .0 .1 .0) (f1 .field-at .ensures .0) (v1 .width .given .1))
+    (lost file (v1 .width .given .0 .1 .0) (f2 .field-at2 .result) (f2 .field-at2 .ensures .0) (c .enum-told2 .given .1)))
 
 field-at-requires-3 : tie.Need-field-at-requires-3
 field-at-requires-3 c κs =
@@ -92,9 +92,9 @@ returns-4 c =
     let file = now (m .before .before .args .file) in
     head-missing file
     (no-maximum file (sym (m .is-marked .ensures) ∙ not-false (m .is-marked .result) (e .if1 .left)) (v1 .width .given .0 .0) (v1 .width .given .0 .1 .0) (v2 .height .given .0 .0) (v2 .height .given .0 .1 .0)
-          (goes file 3 (f1 .field-at .result) (v1 .width .given .0 .0) (v1 .width .given .0 .1 .0) (f1 .field-at .ensures .0) (v1 .width .given .1))
-          (goes file (v1 .width .given .0 .1 .0) (f2 .field-at2 .result) (v2 .height .given .0 .0) (v2 .height .given .0 .1 .0) (f2 .field-at2 .ensures .0) (v2 .height .given .1))
-          (lost file (v2 .height .given .0 .1 .0) (f3 .field-at3 .result) (f3 .field-at3 .ensures .0) (c .enum-told3 .given .1)))
+    (goes file 3 (f1 .field-at .result) (v1 .width .given .0 .0) (v1 .width .given .0 .1 .0) (f1 .field-at .ensures .0) (v1 .width .given .1))
+    (goes file (v1 .width .given .0 .1 .0) (f2 .field-at2 .result) (v2 .height .given .0 .0) (v2 .height .given .0 .1 .0) (f2 .field-at2 .ensures .0) (v2 .height .given .1))
+    (lost file (v2 .height .given .0 .1 .0) (f3 .field-at3 .result) (f3 .field-at3 .ensures .0) (c .enum-told3 .given .1)))
 
 returns-5 : tie.Need-returns-5
 returns-5 c =
@@ -109,9 +109,9 @@ returns-5 c =
     let file = now (m .before .before .args .file) in
     head-numbers file (v1 .width .given .0 .0) (v2 .height .given .0 .0) (v3 .maximum .given .0 .0) (v3 .maximum .given .0 .1 .0)
     (has-header file (sym (m .is-marked .ensures) ∙ not-false (m .is-marked .result) (e .if1 .left)) (v1 .width .given .0 .0) (v1 .width .given .0 .1 .0) (v2 .height .given .0 .0) (v2 .height .given .0 .1 .0) (v3 .maximum .given .0 .0) (v3 .maximum .given .0 .1 .0)
-          (goes file 3 (f1 .field-at .result) (v1 .width .given .0 .0) (v1 .width .given .0 .1 .0) (f1 .field-at .ensures .0) (v1 .width .given .1))
-          (goes file (v1 .width .given .0 .1 .0) (f2 .field-at2 .result) (v2 .height .given .0 .0) (v2 .height .given .0 .1 .0) (f2 .field-at2 .ensures .0) (v2 .height .given .1))
-          (goes file (v2 .height .given .0 .1 .0) (f3 .field-at3 .result) (v3 .maximum .given .0 .0) (v3 .maximum .given .0 .1 .0) (f3 .field-at3 .ensures .0) (v3 .maximum .given .1)))
+    (goes file 3 (f1 .field-at .result) (v1 .width .given .0 .0) (v1 .width .given .0 .1 .0) (f1 .field-at .ensures .0) (v1 .width .given .1))
+    (goes file (v1 .width .given .0 .1 .0) (f2 .field-at2 .result) (v2 .height .given .0 .0) (v2 .height .given .0 .1 .0) (f2 .field-at2 .ensures .0) (v2 .height .given .1))
+    (goes file (v2 .height .given .0 .1 .0) (f3 .field-at3 .result) (v3 .maximum .given .0 .0) (v3 .maximum .given .0 .1 .0) (f3 .field-at3 .ensures .0) (v3 .maximum .given .1)))
     (bounds file (f3 .field-at3 .result) (v3 .maximum .given .0 .0) (v3 .maximum .given .0 .1 .0) (f3 .field-at3 .ensures .1) (v3 .maximum .given .1))
 
 pub header-spec : {M : Type 1} → statement M

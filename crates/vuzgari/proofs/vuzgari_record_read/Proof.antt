@@ -2,7 +2,7 @@
 use mathlib.Core.Path.{ap, _∙_}
 use mathlib.Core.List.{List, _++_}
 use Prim.Native.Nat.{ℕ}
-use lib.ListN.{drop}
+use lib.ListN.{length, drop}
 use denote.Ref.{now}
 use Rattle.vuzgari.proofs.Recording.{shows-none, shows-record, shows-number}
 use borrow.Author.Needs.{needs}
@@ -21,6 +21,9 @@ enum-known-r c = search needs
 fields-requires : tie.Need-fields-requires
 fields-requires c κs = search needs
 
+slice-aggregate-show-fields : tie.Need-slice-aggregate-show-fields
+slice-aggregate-show-fields c = search needs
+
 show-fields-requires : tie.Need-show-fields-requires
 show-fields-requires c κs = search needs
 
@@ -32,12 +35,12 @@ same-length c = search needs
 
 returns-2 : tie.Need-returns-2
 returns-2 c =
-    let f = c .before .before .before in
-    let r = f .before .before .before in
+    let f = c .before .before .before .before .before in
+    let r = f .before .before in
     let e = r .before .before .before in
     let a = e .before .before .before .args in
     shows-record (now (a .bytes)) (now (a .fields)) (e .if1 .left) (r .before .before .read .ensures) (r .r .given .1)
-    (c .before .before .show-fields .ensures ∙ ap (λ (l : List ℕ). l ++ drop 10 (now (a .fields))) (f .fields .ensures))
+    (c .before .before .show-fields .ensures ∙ ap (λ (l : List ℕ). l ++ drop (length l) (now (a .fields))) (f .fields .ensures))
 
 returns-3 : tie.Need-returns-3
 returns-3 c =
@@ -52,6 +55,7 @@ vuzgari-record-read-spec =
     read-requires
     enum-known-r
     fields-requires
+    slice-aggregate-show-fields
     show-fields-requires
     enum-known-n
     same-length
