@@ -10,6 +10,7 @@ use lib.Dec.{ltb, eqb}
 use lib.ListN.{length, drop, length-drop}
 use borrow.Author.Tests.{le-ltb, eq-eqb}
 use Rattle.noise.specs.Refusals.{refusalOf}
+use Rattle.noise.specs.Call.{refused, noiseOf}
 use Rattle.lid_bytes.specs.Input.{mostPixels}
 use Rattle.pgm.specs.declared.Head.{Head}
 use Rattle.pgm.specs.declared.Head.the-variants.{Numbers, Missing}
@@ -18,7 +19,7 @@ use Rattle.pgm.specs.declared.Pgm.the-variants.{Image, Refused}
 use Rattle.pgm.specs.Grammar.{Headed}
 use Rattle.pgm.specs.Read.{headOf, judged, frontRead, readOf}
 use Rattle.pgm.proofs.Heads.{Sized, head-read, head-stands, head-sized}
-use Rattle.grey.specs.Grey.{greyJudged, greyParsed}
+use Rattle.grey.specs.Grey.{greyJudged, greyParsed, answerFound, greyAnswer}
 use Rattle.grey.proofs.Parsing.{at-16, of-16, of-image}
 
 module _ (input : List ℕ) where
@@ -46,6 +47,16 @@ module _ (input : List ℕ) where
       there : (H : Head) → (greyJudged (length input) H ≡ Refused 16 → ⊥) → greyJudged (length input) H ≡ judged (length input) H
       there Missing n = refl
       there (Numbers w h m s) n = by (cond (not (eqb (length input) (s + w * h))) (Refused 22) (Image w h s)) (eqb m 255) (ltb mostPixels (w * h)) n
+
+  -- after any number of the file's own all figures are zero
+  pub zeros : (n : ℕ) → greyParsed input ≡ Refused n → greyAnswer input ≡ refused n
+  unfolding greyAnswer
+  zeros n e = ap (answerFound input) e
+
+  -- a file that is taken gets the noise call's answer for the raster that follows its header, memory being enough
+  pub as-measured : (w h start : ℕ) → greyParsed input ≡ Image w h start → greyAnswer input ≡ noiseOf (drop start input) w h false
+  unfolding greyAnswer
+  as-measured w h start e = ap (answerFound input) e
 
   -- of the noise call's own causes only 3 is left: a side above 16,384, pixels that are not w × h and short memory do not reach it
   pub only-3 : (w h start : ℕ) → greyParsed input ≡ Image w h start → refusalOf (length (drop start input)) w h false ≡ cond (ltb w 4 || ltb h 4) 3 0

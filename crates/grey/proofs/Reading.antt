@@ -9,20 +9,16 @@ use lib.ListN.{length, take, length-take}
 use lib.Seq.{take-all}
 use borrow.Author.Tests.{ltb-true, ltb-false, eqb-true, eqb-false}
 use Rattle.answer.specs.declared.Answer.{Answer}
-use Rattle.noise.specs.Call.{refused}
 use Rattle.lid_bytes.specs.Input.{mostPixels}
 use Rattle.pgm.specs.declared.Head.{Head}
 use Rattle.pgm.specs.declared.Head.the-variants.{Numbers, Missing}
 use Rattle.pgm.specs.declared.Pgm.the-variants.{Refused}
 use Rattle.pgm.specs.Read.{headerBytes, headOf}
 use Rattle.pgm.proofs.Heads.{head-front, head-sized}
-use Rattle.grey.specs.Grey.{greyBytes, greyJudged, greyParsed, answerFound, greyAnswer, greySaid}
+use Rattle.grey.specs.Grey.{greyBytes, greyJudged, greyParsed, greyAnswer, greySaid}
 use Rattle.grey.specs.Remark.{greyRemark}
 use Rattle.grey.proofs.Parsing.{at-21, at-16, at-22}
-
-as-number : (input : List ℕ) (k : ℕ) → greyParsed input ≡ Refused k → greyAnswer input ≡ refused k
-unfolding greyAnswer
-as-number input k e = ap (answerFound input) e
+use Rattle.grey.proofs.Laws.{zeros}
 
 -- one number for every length that is past what the header may ask for
 refused-past : (w h m s most : ℕ) → s + mostPixels ≤ most → (k : ℕ) × ((len : ℕ) → most < len → greyJudged len (Numbers w h m s) ≡ Refused k)
@@ -54,7 +50,7 @@ module _ (n : ℕ) (all : headerBytes + mostPixels < n) (input : List ℕ) (long
   unfolding greyParsed
   both =
       let b = judged-both (headOf input) refl in
-      as-number front (b .0) (ap (greyJudged (length front)) (head-front input n (omega (arith, all))) ∙ b .1) ∙ sym (as-number input (b .0) (b .2))
+      zeros front (b .0) (ap (greyJudged (length front)) (head-front input n (omega (arith, all))) ∙ b .1) ∙ sym (zeros input (b .0) (b .2))
 
 by-front : (n : ℕ) → headerBytes + mostPixels < n → (input : List ℕ) (b : Bool) → ltb n (length input) ≡ b → greyAnswer (take n input) ≡ greyAnswer input
 by-front n all input true e = both n all input (ltb-true n (length input) e)

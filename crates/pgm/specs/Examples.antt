@@ -1,6 +1,6 @@
 -- Files as text, read: the edges that document 02's words leave one to wonder about. A raster here is of the letter x.
 use mathlib.Core.Path.{_≡_, refl}
-use mathlib.Core.List.{_++_}
+use mathlib.Core.List.{[], _∷_, _++_}
 use Rattle.text.specs.Text.{asBytes}
 use Rattle.text.specs.Numerals.{places, decimalOf}
 use Rattle.pgm.specs.declared.Head.the-variants.{Numbers, Missing}
@@ -44,10 +44,11 @@ pub no-number : (headOf (asBytes "P5 2 1 0255 ") ≡ Missing) × (headOf (asByte
 unfolding headOf headerOf byte white number
 no-number = (refl, refl, refl, refl, refl)
 
--- a comment; another kind of file
+-- a comment; another kind of file; hex 0B and 0C, which are whitespace elsewhere
 pub other-kind : (headOf (asBytes "P5\n#\n2 1 255 ") ≡ Missing) × (headOf (asBytes "P2 2 1 255 ") ≡ Missing) × (headOf (asBytes "P52 1 255 ") ≡ Missing)
+    × (headOf (80 ∷ 53 ∷ 11 ∷ asBytes "2 1 255 ") ≡ Missing) × (headOf (asBytes "P5 2 1 255" ++ 12 ∷ []) ≡ Missing)
 unfolding headOf headerOf byte white number
-other-kind = (refl, refl, refl)
+other-kind = (refl, refl, refl, refl, refl)
 
 -- after the maximum a second whitespace byte is the raster's first
 pub two-ends : (readOf (asBytes "P5 2 1 255\r\nxx") ≡ Refused 22) × (readOf (asBytes "P5 2 1 255\r\nx") ≡ Image 2 1 11)
