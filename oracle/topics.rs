@@ -3,6 +3,7 @@
 
 use crate::{images, images::Image, random, speed::beside, value::{Count, Value}, Run, Stored, Topic};
 
+mod calls;
 mod edge;
 mod floats;
 mod grid;

@@ -57,14 +57,7 @@ impl Image {
     /// The line of a lid by document 01's order for programs, without number 16.
     fn line(&self) -> String {
         let [w, h] = self.sides;
-        let refused = |number| noise::shown(&[number, 0, 0, 0, 0, 0, 0, 0, 0, 0]);
-        if self.more != 0 {
-            return refused(15);
-        }
-        let measured = self.sides.iter().all(|side| (4..=16_384).contains(side));
-        let lent = if measured { noise::Lent::needed(w, h) } else { noise::Lent { ints: 0, floats: 0, out: 0 } };
-        let (number, words, _) = noise::theirs(&self.pixels(), w, h, lent);
-        if words.is_empty() { refused(number) } else { noise::shown(&words) }
+        noise::shown(&if self.more != 0 { noise::refused(15) } else { noise::answered(&self.pixels(), w, h) })
     }
 
     /// Origin and centre as they are stored, then the number and the width's bits.

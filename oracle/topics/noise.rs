@@ -107,6 +107,19 @@ pub fn theirs(pixels: &[u8], w: usize, h: usize, lent: Lent) -> Left {
     (counts.reason, vec![counts.reason, sigma.to_bits(), milli, b0, b1, b2, b3, rail, rounds, passes], String::new())
 }
 
+/// The ten fields of a call with memory enough; zeros beside a number that refuses.
+pub fn answered(pixels: &[u8], w: usize, h: usize) -> Vec<u32> {
+    let measured = [w, h].iter().all(|side| (4..=16_384).contains(side));
+    let lent = if measured { Lent::needed(w, h) } else { Lent { ints: 0, floats: 0, out: 0 } };
+    let (number, words, _) = theirs(pixels, w, h, lent);
+    if words.is_empty() { refused(number) } else { words }
+}
+
+/// A number and no figure.
+pub fn refused(number: u32) -> Vec<u32> {
+    vec![number, 0, 0, 0, 0, 0, 0, 0, 0, 0]
+}
+
 /// Document 01's table: the first of 1 to 4 that applies.
 fn refusal(pixels: usize, w: usize, h: usize, lent: Lent) -> u32 {
     if w.max(h) > 16_384 {

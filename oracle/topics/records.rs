@@ -1,8 +1,8 @@
 //! The two record calls as C makes them, beside a reading of request A.1 that stands on its own: the 35 bytes, the rule with T by a
 //! walk over document 01's grid, the orders, and what is left in every lent slice and past it.
 
-use super::{noise, random::specials32, random::Random, stored::Lines, Image, Run, Stored, Topic, Value};
-use std::{array, cell::RefCell, collections::{BTreeMap, BTreeSet, HashMap}, iter::repeat_with};
+use super::{calls::{numbered, Lent}, noise, random::specials32, random::Random, stored::{columns, Lines}, Image, Run, Stored, Topic, Value};
+use std::{array, cell::RefCell, collections::{BTreeSet, HashMap}, iter::repeat_with};
 
 pub const TOPIC: Topic = Topic { name: "records", gate: true, compare, store: Some(store), speed: None };
 
@@ -145,32 +145,8 @@ impl Record {
     }
 }
 
-/// An array whose first `len` places are lent; all of it is looked at.
-#[derive(Clone, Copy, Debug, PartialEq)]
-struct Lent<T, const ROOM: usize> {
-    held: [T; ROOM],
-    len: usize,
-}
-
 type Bytes = Lent<u8, 48>;
 type Fields = Lent<u64, 14>;
-
-impl<T: Copy, const ROOM: usize> Lent<T, ROOM> {
-    fn new(len: usize, mut at: impl FnMut(usize) -> T) -> Self {
-        assert!(len <= ROOM);
-        Lent { held: array::from_fn(&mut at), len }
-    }
-
-    /// The same with these first places.
-    fn with(mut self, first: &[T]) -> Self {
-        self.held[..first.len()].copy_from_slice(first);
-        self
-    }
-
-    fn lent(&self) -> &[T] {
-        &self.held[..self.len]
-    }
-}
 
 /// So many bytes, no two alike.
 fn bytes(len: usize) -> Bytes {
@@ -179,16 +155,6 @@ fn bytes(len: usize) -> Bytes {
 
 fn fields(len: usize) -> Fields {
     Lent::new(len, |k| !0 << 32 | k as u64)
-}
-
-impl<T: Copy + PartialEq + std::fmt::LowerHex, const ROOM: usize> Value for Lent<T, ROOM> {
-    fn same(&self, other: &Self) -> bool {
-        self == other
-    }
-    fn shown(&self) -> String {
-        let part = |part: &[T]| part.iter().map(|x| format!("{x:02x}")).collect::<Vec<_>>().join(" ");
-        format!("[{}; {}]", part(self.lent()), part(&self.held[self.len..]))
-    }
 }
 
 /// A call that writes, and the slices before it.
@@ -205,7 +171,7 @@ impl Write {
     fn ours(&self) -> (u32, Bytes, Bytes) {
         let Write { shot, sides: [w, h], mut answer, mut out } = *self;
         // Pointers that may write: a change of what is only read would show.
-        let (from, to) = (answer.held.as_mut_ptr(), out.held.as_mut_ptr());
+        let (from, to) = (answer.start(), out.start());
         let number = unsafe { vuzgari_record_write(shot, w, h, from, answer.len, to, out.len) };
         (number, answer, out)
     }
@@ -254,7 +220,7 @@ struct Read {
 impl Read {
     fn ours(&self) -> (u32, Bytes, Fields) {
         let Read { mut bytes, mut fields } = *self;
-        let number = unsafe { vuzgari_record_read(bytes.held.as_mut_ptr(), bytes.len, fields.held.as_mut_ptr(), fields.len) };
+        let number = unsafe { vuzgari_record_read(bytes.start(), bytes.len, fields.start(), fields.len) };
         (number, bytes, fields)
     }
 
@@ -308,29 +274,12 @@ impl Value for Record {
     }
 }
 
-/// Compares calls, and counts them by the number that they answer.
-fn numbered<A: Value, B: Value + Clone, C: Value + Clone>(
-    run: &mut Run,
-    what: &str,
-    calls: impl Iterator<Item = A>,
-    ours: fn(&A) -> (u32, B, C),
-    theirs: fn(&A) -> (u32, B, C),
-) {
-    let mut seen = BTreeMap::<u32, u64>::new();
-    run.same(what, calls, ours, |call| {
-        let left = theirs(call);
-        *seen.entry(left.0).or_default() += 1;
-        left
-    });
-    seen.into_iter().for_each(|(number, n)| run.count(&format!("{what}, answer {number}"), n));
-}
-
 fn writes(run: &mut Run, what: &str, calls: impl Iterator<Item = Write>) {
-    numbered(run, what, calls, Write::ours, Write::theirs);
+    numbered(run, what, calls, Write::ours, Write::theirs, |left| left.0);
 }
 
 fn reads(run: &mut Run, what: &str, calls: impl Iterator<Item = Read>) {
-    numbered(run, what, calls, Read::ours, Read::theirs);
+    numbered(run, what, calls, Read::ours, Read::theirs, |left| left.0);
 }
 
 // Fixed lists.
@@ -467,7 +416,7 @@ fn write_lengths() -> impl Iterator<Item = Write> {
     let records = [right, plain([25, 25], 5, split(484, 0, 4)), Record { rail: 18, ..right }, Record { sides: [3, 26], ..right }];
     records.into_iter().flat_map(|record| {
         let call = Write::of(&mut Random::new(1), record);
-        (0..42).flat_map(move |n| (0..42).map(move |m| Write { answer: Lent { len: n, ..call.answer }, out: bytes(m), ..call }))
+        (0..42).flat_map(move |n| (0..42).map(move |m| Write { answer: call.answer.of(n), out: bytes(m), ..call }))
     })
 }
 
@@ -774,16 +723,12 @@ fn store() -> Stored {
     lines.stored()
 }
 
-/// Forty bytes in five columns.
-fn columns(bytes: &Bytes) -> [u64; 5] {
-    array::from_fn(|k| u64::from_be_bytes(bytes.held[8 * k..8 * k + 8].try_into().unwrap()))
-}
-
 fn store_write(lines: &mut Lines, record: Record, answer_len: usize, out_len: usize) {
     let words = record.words([0x3333_3333, 0x8888_8888, 0x9999_9999]).map(u32::to_le_bytes);
     let (answer, out) = (bytes(answer_len).with(words.as_flattened()), Lent::new(out_len, |_| HELD.0));
     let (number, _, left) = Write { shot: record.shot, sides: record.sides.map(|side| side as usize), answer, out }.theirs();
-    let numbers = [&[record.shot.into(), record.sides[0], record.sides[1], answer_len as u64, out_len as u64][..], &columns(&answer)];
+    let columns = columns(answer.held.first_chunk().unwrap());
+    let numbers = [&[record.shot.into(), record.sides[0], record.sides[1], answer_len as u64, out_len as u64][..], &columns];
     let shown: String = left.held[..40].iter().map(|byte| format!("{byte:02x}")).collect();
     lines.call('w', &numbers.concat(), &format!("write {number} {shown}"));
 }
@@ -791,7 +736,8 @@ fn store_write(lines: &mut Lines, record: Record, answer_len: usize, out_len: us
 fn store_read(lines: &mut Lines, record: [u8; BYTES], bytes_len: usize, fields_len: usize) {
     let call = Read { bytes: bytes(bytes_len).with(&record), fields: Lent::new(fields_len, |_| HELD.1) };
     let (number, _, left) = call.theirs();
-    let numbers = [&[0, 0, 0, bytes_len as u64, fields_len as u64][..], &columns(&call.bytes)];
+    let columns = columns(call.bytes.held.first_chunk().unwrap());
+    let numbers = [&[0, 0, 0, bytes_len as u64, fields_len as u64][..], &columns];
     let shown: String = left.held[..12].iter().map(|field| format!(" {field}")).collect();
     lines.call('r', &numbers.concat(), &format!("read {number}{shown}"));
 }

@@ -45,6 +45,11 @@ impl Lines {
     }
 }
 
+/// Forty bytes in five columns.
+pub fn columns(bytes: &[u8; 40]) -> [u64; 5] {
+    std::array::from_fn(|k| u64::from_be_bytes(bytes[8 * k..8 * k + 8].try_into().unwrap()))
+}
+
 /// A whole number as the lists have it: bit 31 for the sign, 31 bits for the size.
 pub fn signed(z: i32) -> u64 {
     assert!(z != i32::MIN, "no list has it");
