@@ -14,6 +14,7 @@ mod misfit;
 mod model;
 mod noise;
 mod patterns;
+mod pgm;
 mod records;
 mod rounds;
 mod sample;
@@ -39,6 +40,7 @@ pub const ALL: &[Topic] = &[
     lids::TOPIC,
     twins::TOPIC,
     records::TOPIC,
+    pgm::TOPIC,
     noise::LARGE,
     lids::LARGE,
     patterns::TOPIC,
