@@ -4,6 +4,7 @@ pub mod bands;
 pub mod covariance_model;
 mod covariances;
 pub mod floats;
+pub mod grey_files;
 pub mod grids;
 pub mod pixel_gradients;
 pub mod samples;
