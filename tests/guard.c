@@ -1,8 +1,9 @@
 /* guard after|before LIDS EDGES: makes the C calls on slices that each end at an unreadable page, or each begin right
    after one, and holds what they answer to the lists and what they leave to document 01. Pixels are lent read-only, and
    to a call that is to be refused everything is. An access outside ends the program with the call's name. rooms.c has the
-   slices, records.c the record calls. */
+   slices, records.c the record calls, pgm.c those on grey files. */
 #include "images/image.h"
+#include "pgm.h"
 #include "records.h"
 #include "rooms.h"
 #include "vuzgari.h"
@@ -195,6 +196,13 @@ static void lid(const struct image *image)
     refusals(image, lent);
 }
 
+/* The same lid as a grey file. */
+static void grey_file(const struct image *image)
+{
+    struct vuzgari_answer stored = stored_answer(image);
+    measured_file(image, &stored);
+}
+
 /* One call of the edges' list. */
 static void edge(const struct image *image)
 {
@@ -244,7 +252,9 @@ int main(int argc, char **argv)
     guard_rooms(strcmp(argv[1], "after") == 0);
     nulls();
     records();
+    grey_files();
     each(argv[2], lid);
+    each(argv[2], grey_file);
     each(argv[3], edge);
     printf("guard: %lu calls, unreadable pages %s the slices\n", calls, argv[1]);
     return 0;
