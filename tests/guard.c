@@ -1,7 +1,7 @@
 /* guard after|before LIDS EDGES: makes the C calls on slices that each end at an unreadable page, or each begin right
    after one, and holds what they answer to the lists and what they leave to document 01. Pixels are lent read-only, and
-   to a call that is to be refused everything is. An access outside ends the program with the call's name. rooms.c has the
-   slices, records.c the record calls, pgm.c those on grey files. */
+   to a call that is to be refused everything is. An access outside ends the program with the call's name. rooms.c has
+   the slices, records.c the record calls, pgm.c those on grey files. */
 #include "images/image.h"
 #include "pgm.h"
 #include "records.h"

@@ -1,6 +1,6 @@
 # shellcheck shell=sh
-# What tests/lidnoise and tests/pgmnoise share: each reads it in at the top of the tree, with `program`, the name, set. A
-# case makes an input, says what it is in `name`, runs the program, and holds what it printed and said.
+# What tests/lidnoise and tests/pgmnoise share: each reads it in at the top of the tree, with its program's name in
+# $program. A case says in $name what its input is, runs the program, and holds what that printed and said.
 : "${program:?}"
 room=$(mktemp -d)
 trap 'rm -rf "$room"' EXIT
@@ -61,8 +61,8 @@ answers() {
     esac
 }
 
-# streams FLAT SMALL EMPTY WORDS: what cannot be read or written. FLAT is a file of 26 by 26 pixels, all of them 128, and
-# SMALL one of 25 by 25; EMPTY is the number of an empty input; WORDS is what is said of words.
+# streams FLAT SMALL EMPTY WORDS: words, and what cannot be read or written. FLAT is a file of 26 by 26 pixels, all of
+# them 128, SMALL one of 25 by 25; EMPTY is the number of an empty input; WORDS is what is said of words.
 streams() {
     name='words'
     run box <"$1"
