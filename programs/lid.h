@@ -6,9 +6,16 @@
 
 #include <stdbool.h>
 
-enum {
-    HEADER_BYTES = 4,
-    PGM_WIDTH = 'P' + 256 * '5' /* the width that a header beginning with P5 says */
+/* The formats of files: lidnoise's, and a subset of binary PGM. Asked for, EITHER leaves it to the file. */
+enum format { EITHER, LID, PGM };
+
+/* A file read in one format: what its first bytes say. What is not known is zero. */
+struct reading {
+    enum format format;
+    size_t w, h;
+    uint64_t maximum; /* of a PGM file */
+    size_t start;     /* where the pixels start; 0 where there is no header */
+    uint64_t asks;    /* how many bytes the file is to have, its header among them; 0 where no length would do */
 };
 
 /* Why a lid could not be read, where the system has no word for it. */
@@ -16,11 +23,12 @@ enum { NOBODY_WRITES = -1 };
 
 /* What is not known is zero. */
 struct lid {
-    const char *name; /* `-` is standard input */
-    int error;        /* 0, or why it could not be read: errno's number or NOBODY_WRITES */
-    uint64_t length;  /* its bytes, as far as they decide */
-    bool more;        /* whether a stream goes on after them */
-    size_t w, h;      /* as its header says */
+    const char *name;       /* `-` is standard input */
+    enum format asked;      /* the format that it is to be read in */
+    int error;              /* 0, or why it could not be read: errno's number or NOBODY_WRITES */
+    uint64_t length;        /* its bytes, as far as they decide */
+    bool more;              /* whether a stream was left there, and may go on */
+    struct reading reading; /* in its format */
     struct vuzgari_answer answer;
 };
 
@@ -36,29 +44,7 @@ static inline bool has_figure(const struct lid *lid)
 
 static inline bool has_header(const struct lid *lid)
 {
-    return was_read(lid) && lid->length >= HEADER_BYTES;
-}
-
-/* How many bytes the header asks for, itself among them. */
-static inline uint64_t bytes_by_header(const struct lid *lid)
-{
-    return HEADER_BYTES + (uint64_t)lid->w * lid->h;
-}
-
-static inline bool fits_its_header(const struct lid *lid)
-{
-    return has_header(lid) && !lid->more && lid->length == bytes_by_header(lid);
-}
-
-/* Whether it is taken for a binary PGM file: it begins with P5, and as a lid it would have another length. */
-static inline bool is_pgm(const struct lid *lid)
-{
-    return has_header(lid) && lid->w == PGM_WIDTH && !fits_its_header(lid);
-}
-
-static inline bool has_sides(const struct lid *lid)
-{
-    return has_header(lid) && !is_pgm(lid);
+    return was_read(lid) && lid->reading.start > 0;
 }
 
 #endif

@@ -18,21 +18,24 @@ enum status { ALL_GIVEN = 0, SOME_WITHOUT = 1, FAILED = 2 };
 
 /* What the words of the command ask for. */
 struct request {
-    bool help, version, tsv, lidnoise;
+    bool help, version, tsv, lidnoise, lid, pgm;
     char **names;
     size_t count;
 };
 
 static const char help[] =
-    "usage: lids [--tsv] FILE..\n"
-    "       lids --lidnoise FILE\n"
+    "usage: lids [--tsv] [--lid | --pgm] FILE..\n"
+    "       lids --lidnoise [--lid | --pgm] FILE\n"
     "       lids --help | --version\n"
     "Measures the noise of lids, in levels of 0 to 255, and prints a row a lid.\n"
-    "FILE is a lid: width and height, two bytes each, low first, then the pixels, a\n"
-    "byte each, row by row; sides up to 16,384. - is standard input.\n"
+    "FILE is a lid (width and height, two bytes each, low first, then the pixels, a\n"
+    "byte each, row by row) or a binary PGM file of maximum 255 without comments;\n"
+    "sides up to 16,384. - is standard input.\n"
     "\n"
     "  --tsv       rows parted by tabs, for programs; no end lines\n"
     "  --lidnoise  the two lines of lidnoise; the reason is on standard error\n"
+    "  --lid       every FILE is a lid, also one that looks like PGM\n"
+    "  --pgm       every FILE is a PGM file\n"
     "  --          ends the options\n"
     "\n"
     "  noise           the lower, the more surely pencil is told from grain\n"
@@ -79,6 +82,8 @@ static bool *option(struct request *request, const char *word)
         {"--version", &request->version},
         {"--tsv", &request->tsv},
         {"--lidnoise", &request->lidnoise},
+        {"--lid", &request->lid},
+        {"--pgm", &request->pgm},
     };
     for (size_t k = 0; k < sizeof options / sizeof options[0]; k++) {
         if (strcmp(word, options[k].word) == 0) {
@@ -131,6 +136,9 @@ static const char *fault_of(const struct request *request)
     if (request->lidnoise && request->tsv) {
         return "--lidnoise and --tsv do not go together";
     }
+    if (request->lid && request->pgm) {
+        return "--lid and --pgm do not go together";
+    }
     if (request->count == 0) {
         return "no file is named";
     }
@@ -144,6 +152,14 @@ static bool can_be_met(const struct request *request)
         fprintf(stderr, "lids: %s; lids --help says what lids takes\n", fault);
     }
     return fault == NULL;
+}
+
+static enum format asked_format(const struct request *request)
+{
+    if (request->lid) {
+        return LID;
+    }
+    return request->pgm ? PGM : EITHER;
 }
 
 static enum status status_of(const struct lid *lid)
@@ -208,7 +224,7 @@ static enum status run_rows(const struct request *request)
         stop("lids");
     }
     for (size_t k = 0; k < request->count; k++) {
-        lids[k].name = request->names[k];
+        lids[k] = (struct lid){.name = request->names[k], .asked = asked_format(request)};
     }
     enum status status = print_rows(lids, request->count, request->tsv);
     if (!request->tsv) {
@@ -231,9 +247,9 @@ static void say_reason(const struct lid *lid)
     fputs("\n", stderr);
 }
 
-static enum status run_lidnoise(const char *name)
+static enum status run_lidnoise(const struct request *request)
 {
-    struct lid lid = {.name = name};
+    struct lid lid = {.name = request->names[0], .asked = asked_format(request)};
     measure_lid(&lid);
     if (was_read(&lid)) {
         print_lidnoise(&lid);
@@ -255,7 +271,7 @@ static enum status run(const struct request *request)
         printf("lids %s\n", vuzgari_version());
         return ALL_GIVEN;
     }
-    return request->lidnoise ? run_lidnoise(request->names[0]) : run_rows(request);
+    return request->lidnoise ? run_lidnoise(request) : run_rows(request);
 }
 
 int main(int argc, char **argv)

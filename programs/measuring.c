@@ -13,6 +13,8 @@ static struct vuzgari_answer refusal(uint32_t number)
 /* Lends the noise call memory for m windows. Returns 0 or errno's number. */
 static int measure_windows(struct lid *lid, const uint8_t *pixels, size_t m)
 {
+    size_t w = lid->reading.w;
+    size_t h = lid->reading.h;
     size_t ints_len = 3 * m;
     size_t floats_len = 2 * m + 2;
     int32_t *ints = malloc(ints_len * sizeof *ints);
@@ -20,8 +22,7 @@ static int measure_windows(struct lid *lid, const uint8_t *pixels, size_t m)
     bool lent = ints != NULL && floats != NULL;
     if (lent) {
         uint8_t answer[VUZGARI_ANSWER_BYTES] = {0};
-        uint32_t number = vuzgari_noise(pixels, lid->w * lid->h, lid->w, lid->h, ints, ints_len, floats, floats_len,
-                                        answer, sizeof answer);
+        uint32_t number = vuzgari_noise(pixels, w * h, w, h, ints, ints_len, floats, floats_len, answer, sizeof answer);
         lid->answer = vuzgari_answer_from(answer);
         lid->answer.number = number; /* a refused call writes no answer */
     }
@@ -31,25 +32,23 @@ static int measure_windows(struct lid *lid, const uint8_t *pixels, size_t m)
 }
 
 /* Measures a lid whose length fits its header. */
-static int measure_pixels(struct lid *lid, const uint8_t *pixels)
+static int measure_bytes(struct lid *lid, const uint8_t *bytes)
 {
-    uint64_t windows = vuzgari_noise_windows(lid->w, lid->h);
+    uint64_t windows = vuzgari_noise_windows(lid->reading.w, lid->reading.h);
     uint32_t number = vuzgari_number_of(windows);
     if (number != VUZGARI_GIVEN) {
         lid->answer = refusal(number);
         return 0;
     }
-    return measure_windows(lid, pixels, (size_t)windows);
+    return measure_windows(lid, bytes + lid->reading.start, (size_t)windows);
 }
 
 void measure_lid(struct lid *lid)
 {
-    *lid = (struct lid){.name = lid->name};
-    uint8_t *pixels = read_lid(lid);
-    if (fits_its_header(lid)) {
-        lid->error = measure_pixels(lid, pixels);
-    } else if (was_read(lid)) {
-        lid->answer = refusal(VUZGARI_NOT_A_LID);
+    *lid = (struct lid){.name = lid->name, .asked = lid->asked};
+    uint8_t *bytes = read_lid(lid);
+    if (was_read(lid) && lid->answer.number == VUZGARI_GIVEN) {
+        lid->error = measure_bytes(lid, bytes);
     }
-    free(pixels);
+    free(bytes);
 }

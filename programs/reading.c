@@ -1,6 +1,7 @@
 #define _POSIX_C_SOURCE 200809L
 
 #include "reading.h"
+#include "formats.h"
 
 #include <errno.h>
 #include <fcntl.h>
@@ -13,6 +14,13 @@
 enum { BLOCK_BYTES = 65536 };
 
 #define UNKNOWN UINT64_MAX
+
+/* What a lid is read from. */
+struct input {
+    int descriptor;
+    uint64_t length; /* the bytes that have been read */
+    bool ended;      /* whether there are no more */
+};
 
 static bool would_wait(int error)
 {
@@ -42,28 +50,20 @@ static ssize_t read_once(int descriptor, uint8_t *into, size_t count)
     }
 }
 
-/* Reads `count` bytes, fewer only at the end, and counts them in the lid. Returns 0 or errno's number. */
-static int read_bytes(int descriptor, uint8_t *into, size_t count, struct lid *lid)
+/* Reads `count` bytes, fewer only at the end. Returns 0 or errno's number. */
+static int read_bytes(struct input *input, uint8_t *into, size_t count)
 {
-    while (count > 0) {
-        ssize_t got = read_once(descriptor, into, count);
-        if (got <= 0) {
-            return got == 0 ? 0 : errno;
+    while (count > 0 && !input->ended) {
+        ssize_t got = read_once(input->descriptor, into, count);
+        if (got < 0) {
+            return errno;
         }
         into += got;
         count -= (size_t)got;
-        lid->length += (uint64_t)got;
+        input->length += (uint64_t)got;
+        input->ended = got == 0;
     }
     return 0;
-}
-
-/* Sees whether the input goes on. */
-static int look_for_more(int descriptor, struct lid *lid)
-{
-    uint8_t next;
-    ssize_t got = read_once(descriptor, &next, 1);
-    lid->more = got > 0;
-    return got < 0 ? errno : 0;
 }
 
 static size_t lesser(uint64_t a, uint64_t b)
@@ -71,77 +71,130 @@ static size_t lesser(uint64_t a, uint64_t b)
     return (size_t)(a < b ? a : b);
 }
 
-/* Counts the pixels of a lid that is refused for its sides. */
-static int count_pixels(int descriptor, struct lid *lid)
+/* Reads until `most` bytes have been read, and keeps none. */
+static int count_bytes(struct input *input, uint64_t most)
 {
     uint8_t block[BLOCK_BYTES];
-    for (;;) {
-        size_t count = lesser(bytes_by_header(lid) - lid->length, sizeof block);
-        uint64_t before = lid->length;
-        int error = read_bytes(descriptor, block, count, lid);
-        if (error != 0 || count == 0 || lid->length - before < count) {
-            return error;
-        }
+    int error = 0;
+    while (error == 0 && !input->ended && input->length < most) {
+        error = read_bytes(input, block, lesser(most - input->length, sizeof block));
     }
-}
-
-/* Keeps the pixels, in room for `room` of them at first and for twice as many whenever it is full. */
-static int keep_pixels(int descriptor, struct lid *lid, size_t room, uint8_t **pixels)
-{
-    size_t kept = 0;
-    for (;;) {
-        uint8_t *grown = realloc(*pixels, room);
-        if (grown == NULL) {
-            return ENOMEM;
-        }
-        *pixels = grown;
-        int error = read_bytes(descriptor, grown + kept, room - kept, lid);
-        kept = (size_t)(lid->length - HEADER_BYTES);
-        if (error != 0 || kept < room || kept == lid->w * lid->h) {
-            return error;
-        }
-        room = lesser(2 * room, lid->w * lid->h);
-    }
-}
-
-/* How many bytes of a plain file are ahead. A size of 0 says nothing: the system's own files have it too. */
-static uint64_t bytes_ahead(int descriptor)
-{
-    struct stat status;
-    if (fstat(descriptor, &status) != 0 || !S_ISREG(status.st_mode)) {
-        return UNKNOWN;
-    }
-    off_t at = lseek(descriptor, 0, SEEK_CUR);
-    return at >= 0 && at < status.st_size ? (uint64_t)(status.st_size - at) : UNKNOWN;
-}
-
-static int read_header(int descriptor, struct lid *lid)
-{
-    uint8_t header[HEADER_BYTES] = {0};
-    int error = read_bytes(descriptor, header, sizeof header, lid);
-    lid->w = header[0] + (size_t)256 * header[1];
-    lid->h = header[2] + (size_t)256 * header[3];
     return error;
 }
 
-static int read_after_header(int descriptor, uint64_t size, struct lid *lid, uint8_t **pixels)
+static int make_room(uint8_t **bytes, size_t room)
 {
-    bool measurable = vuzgari_number_of(vuzgari_noise_windows(lid->w, lid->h)) == VUZGARI_GIVEN;
-    if (size != UNKNOWN && (!measurable || size != bytes_by_header(lid))) {
-        lid->length = size;
-        return 0;
+    uint8_t *grown = realloc(*bytes, room);
+    if (grown == NULL) {
+        return ENOMEM;
     }
-    size_t pixels_len = lid->w * lid->h;
-    size_t room = size == UNKNOWN ? lesser(pixels_len, BLOCK_BYTES) : pixels_len;
-    int error = measurable ? keep_pixels(descriptor, lid, room, pixels) : count_pixels(descriptor, lid);
-    return error == 0 && fits_its_header(lid) ? look_for_more(descriptor, lid) : error;
+    *bytes = grown;
+    return 0;
 }
 
-static int read_from(int descriptor, struct lid *lid, uint8_t **pixels)
+/* Reads until `most` bytes have been read, and keeps them with the front, which is shorter: in room for `room` at first
+   and for twice as many whenever that is full. */
+static int keep_bytes(struct input *input, const struct front *front, size_t room, size_t most, uint8_t **bytes)
 {
-    uint64_t size = bytes_ahead(descriptor);
-    int error = read_header(descriptor, lid);
-    return error == 0 && has_header(lid) ? read_after_header(descriptor, size, lid, pixels) : error;
+    int error = make_room(bytes, room);
+    if (error == 0) {
+        memcpy(*bytes, front->bytes, front->count);
+    }
+    while (error == 0) {
+        error = read_bytes(input, *bytes + input->length, room - input->length);
+        if (error != 0 || input->ended || room == most) {
+            return error;
+        }
+        room = lesser(2 * room, most);
+        error = make_room(bytes, room);
+    }
+    return error;
+}
+
+/* How many bytes a plain file has, from its front on. A size of 0 says nothing: the system's own files have it too. */
+static uint64_t size_of(const struct input *input)
+{
+    struct stat status;
+    if (input->ended || fstat(input->descriptor, &status) != 0 || !S_ISREG(status.st_mode)) {
+        return UNKNOWN;
+    }
+    off_t at = lseek(input->descriptor, 0, SEEK_CUR);
+    return at >= 0 && at < status.st_size ? input->length + (uint64_t)(status.st_size - at) : UNKNOWN;
+}
+
+static int read_front(struct input *input, enum format asked, struct front *front)
+{
+    int error = read_bytes(input, front->bytes, LID_HEADER_BYTES);
+    front->count = (size_t)input->length;
+    if (error == 0 && may_be_pgm(asked, front)) {
+        error = read_bytes(input, front->bytes + front->count, sizeof front->bytes - front->count);
+        front->count = (size_t)input->length;
+    }
+    return error;
+}
+
+static bool can_be_measured(const struct reading *reading)
+{
+    return reading->asks > 0 && vuzgari_number_of(vuzgari_noise_windows(reading->w, reading->h)) == VUZGARI_GIVEN;
+}
+
+static bool can_be_measured_at(const struct readings *readings, uint64_t length)
+{
+    const struct reading *reading = choose(readings, length);
+    return number_by_length(readings, reading, length) == VUZGARI_GIVEN && can_be_measured(reading);
+}
+
+/* The largest length that a reading asks for, of all or of those that can be measured; 0 where none asks. */
+static uint64_t most_asked(const struct readings *readings, bool measured)
+{
+    uint64_t most = 0;
+    for (size_t k = 0; k < readings->count; k++) {
+        const struct reading *reading = &readings->all[k];
+        if (reading->asks > most && (!measured || can_be_measured(reading))) {
+            most = reading->asks;
+        }
+    }
+    return most;
+}
+
+/* Reads on to the end, or to one byte past what any reading asks for. Of a plain file there is room for a byte more
+   than it has, so that its end is met before the room grows. */
+static int read_on(struct input *input, const struct readings *readings, uint64_t size, uint8_t **bytes)
+{
+    size_t most = (size_t)most_asked(readings, true);
+    size_t room = lesser(size == UNKNOWN ? BLOCK_BYTES : size + 1, most);
+    int error = most > 0 ? keep_bytes(input, &readings->front, room, most, bytes) : 0;
+    return error == 0 ? count_bytes(input, most_asked(readings, false) + 1) : error;
+}
+
+/* Sets what follows from the length. */
+static void settle(struct lid *lid, const struct readings *readings, uint64_t length)
+{
+    const struct reading *reading = choose(readings, length);
+    lid->length = length;
+    lid->reading = *reading;
+    lid->answer.number = number_by_length(readings, reading, length);
+}
+
+static int read_after_front(struct input *input, const struct front *front, struct lid *lid, uint8_t **bytes)
+{
+    struct readings readings = readings_of(lid->asked, front);
+    uint64_t length = size_of(input);
+    int error = 0;
+    if (length == UNKNOWN || can_be_measured_at(&readings, length)) {
+        error = read_on(input, &readings, length, bytes);
+        length = input->length;
+        lid->more = !input->ended;
+    }
+    settle(lid, &readings, length);
+    return error;
+}
+
+static int read_from(struct input *input, struct lid *lid, uint8_t **bytes)
+{
+    struct front front = {.count = 0};
+    int error = read_front(input, lid->asked, &front);
+    return error == 0 ? read_after_front(input, &front, lid, bytes) : error;
 }
 
 /* Opens without waiting for a writer; what is read then is waited for. */
@@ -164,37 +217,31 @@ static bool nobody_writes(int descriptor)
         && poll(&end, 1, 0) >= 0 && (end.revents & POLLHUP) == 0;
 }
 
-static int read_file(struct lid *lid, uint8_t **pixels)
+static int read_file(struct lid *lid, uint8_t **bytes)
 {
-    int descriptor = open_at_once(lid->name);
-    if (descriptor < 0) {
+    struct input input = {.descriptor = open_at_once(lid->name)};
+    if (input.descriptor < 0) {
         return errno;
     }
-    int error = read_from(descriptor, lid, pixels);
-    if (error == 0 && lid->length == 0 && nobody_writes(descriptor)) {
+    int error = read_from(&input, lid, bytes);
+    if (error == 0 && lid->length == 0 && nobody_writes(input.descriptor)) {
         error = NOBODY_WRITES;
     }
-    close(descriptor);
+    close(input.descriptor);
     return error;
 }
 
-static int read_standard_input(struct lid *lid, uint8_t **pixels)
+static int read_standard_input(struct lid *lid, uint8_t **bytes)
 {
     static bool taken;
-    if (taken) {
-        return 0;
-    }
+    struct input input = {.descriptor = STDIN_FILENO, .ended = taken};
     taken = true;
-    return read_from(STDIN_FILENO, lid, pixels);
+    return read_from(&input, lid, bytes);
 }
 
 uint8_t *read_lid(struct lid *lid)
 {
-    uint8_t *pixels = NULL;
-    lid->error = strcmp(lid->name, "-") == 0 ? read_standard_input(lid, &pixels) : read_file(lid, &pixels);
-    if (!fits_its_header(lid)) {
-        free(pixels);
-        pixels = NULL;
-    }
-    return pixels;
+    uint8_t *bytes = NULL;
+    lid->error = strcmp(lid->name, "-") == 0 ? read_standard_input(lid, &bytes) : read_file(lid, &bytes);
+    return bytes;
 }

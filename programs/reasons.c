@@ -1,11 +1,13 @@
 #include "reasons.h"
+#include "formats.h"
 
 #include <string.h>
 
 enum {
     LARGEST_SIDE = 16384,
     LEAST_SIDE = 4,
-    LEAST_WINDOWS = 512
+    LEAST_WINDOWS = 512,
+    PGM_MAXIMUM = 255
 };
 
 struct numeral grouped(uint64_t number)
@@ -30,13 +32,13 @@ static void put_unreadable(FILE *out, const struct lid *lid)
 
 static void put_sides(FILE *out, const struct lid *lid)
 {
-    fprintf(out, "the header says %s by %s", grouped(lid->w).text, grouped(lid->h).text);
+    fprintf(out, "the header says %s by %s", grouped(lid->reading.w).text, grouped(lid->reading.h).text);
 }
 
 static void put_other_length(FILE *out, const struct lid *lid)
 {
     put_sides(out, lid);
-    fprintf(out, ", so %s bytes; ", grouped(bytes_by_header(lid)).text);
+    fprintf(out, ", so %s bytes; ", grouped(lid->reading.asks).text);
     if (lid->more) {
         fputs("there are more", out);
     } else {
@@ -49,13 +51,21 @@ static void put_not_a_lid(FILE *out, const struct lid *lid)
     if (lid->length == 0) {
         fputs("the file is empty", out);
     } else if (!has_header(lid)) {
-        fprintf(out, "a lid begins with %d bytes of width and height; the file has %s", HEADER_BYTES,
+        fprintf(out, "a lid begins with %d bytes of width and height; the file has %s", LID_HEADER_BYTES,
                 grouped(lid->length).text);
-    } else if (is_pgm(lid)) {
-        fputs("a binary PGM file (it begins with P5), not a lid; lids(1) says how to turn it into one", out);
     } else {
         put_other_length(out, lid);
     }
+}
+
+static void put_pgm_header(FILE *out, const struct lid *lid)
+{
+    fputs(lid->length == 0 ? "the file is empty" : vuzgari_reason(VUZGARI_PGM_HEADER), out);
+}
+
+static void put_pgm_maximum(FILE *out, const struct lid *lid)
+{
+    fprintf(out, "the PGM file's maximum is %s, not %d", grouped(lid->reading.maximum).text, PGM_MAXIMUM);
 }
 
 static void put_side_above(FILE *out, const struct lid *lid)
@@ -118,6 +128,15 @@ void put_reason(FILE *out, const struct lid *lid)
     switch (lid->answer.number) {
     case VUZGARI_NOT_A_LID:
         put_not_a_lid(out, lid);
+        break;
+    case VUZGARI_PGM_HEADER:
+        put_pgm_header(out, lid);
+        break;
+    case VUZGARI_PGM_MAXIMUM:
+        put_pgm_maximum(out, lid);
+        break;
+    case VUZGARI_PGM_RASTER:
+        put_other_length(out, lid);
         break;
     case VUZGARI_SIDE_ABOVE:
         put_side_above(out, lid);

@@ -47,12 +47,12 @@ static struct cell sigma(const struct lid *lid)
 
 static struct cell width(const struct lid *lid)
 {
-    return cell(has_sides(lid), lid->w);
+    return cell(has_header(lid), lid->reading.w);
 }
 
 static struct cell height(const struct lid *lid)
 {
-    return cell(has_sides(lid), lid->h);
+    return cell(has_header(lid), lid->reading.h);
 }
 
 /* A name as the table shows it, and spaces up to the column's end. */
