@@ -1,5 +1,5 @@
 -- What the program judges, in the words of document 02, and how it stands to the reader.
-use mathlib.Core.Path.{_≡_, refl, sym, ap, _∙_}
+use mathlib.Core.Path.{_≡_, refl, ap, _∙_}
 use mathlib.Core.Bool.{Bool, true, false, cond, not, _||_}
 use mathlib.Core.Logic.{_↔_}
 use mathlib.Core.List.{List}
@@ -17,7 +17,7 @@ use Rattle.pgm.specs.declared.Head.the-variants.{Numbers, Missing}
 use Rattle.pgm.specs.declared.Pgm.{Pgm}
 use Rattle.pgm.specs.declared.Pgm.the-variants.{Image, Refused}
 use Rattle.pgm.specs.Grammar.{Headed}
-use Rattle.pgm.specs.Read.{headOf, judged, frontRead, readOf}
+use Rattle.pgm.specs.Read.{headOf, pgmJudged, frontRead, readOf}
 use Rattle.pgm.proofs.Heads.{Sized, head-read, head-stands, head-sized}
 use Rattle.grey.specs.Grey.{greyJudged, greyParsed, answerFound, greyAnswer}
 use Rattle.grey.proofs.Parsing.{at-16, of-16, of-image}
@@ -44,7 +44,7 @@ module _ (input : List ℕ) where
       by x true false n = refl
       by x false q n = refl
 
-      there : (H : Head) → (greyJudged (length input) H ≡ Refused 16 → ⊥) → greyJudged (length input) H ≡ judged (length input) H
+      there : (H : Head) → (greyJudged (length input) H ≡ Refused 16 → ⊥) → greyJudged (length input) H ≡ pgmJudged (length input) H
       there Missing n = refl
       there (Numbers w h m s) n = by (cond (not (eqb (length input) (s + w * h))) (Refused 22) (Image w h s)) (eqb m 255) (ltb mostPixels (w * h)) n
 

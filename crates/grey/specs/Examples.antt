@@ -6,18 +6,18 @@ use Rattle.text.specs.Text.{asBytes}
 use Rattle.text.specs.Numerals.{places, decimalOf}
 use Rattle.reasons.specs.Reasons.{reasonOf, numberedOf}
 use Rattle.pgm.specs.declared.Pgm.the-variants.{Image, Refused}
-use Rattle.pgm.specs.Read.{byte, white, number, headerOf, headOf}
+use Rattle.pgm.specs.Read.{takeByte, takeWhite, takeNumber, headerOf, headOf}
 use Rattle.grey.specs.Grey.{greyBytes, greyParsed}
 use Rattle.grey.specs.Remark.{greyRemark, greyRemarkBytes}
 
 -- 17 by 241 is 4,097 pixels, whatever follows: 16 comes before 22, and after 21 and 20; 64 by 64 is 4,096
 pub sixteen : (greyParsed (asBytes "P5 17 241 255 ") ≡ Refused 16) × (greyParsed (asBytes "P5 17 241 254 ") ≡ Refused 21) × (greyParsed (asBytes "P5 17 241 254") ≡ Refused 20)
     × (greyParsed (asBytes "P5 64 64 255 ") ≡ Refused 22) × (greyParsed (asBytes "P5 65536 65536 255 ") ≡ Refused 16)
-unfolding greyParsed headOf headerOf byte white number
+unfolding greyParsed headOf headerOf takeByte takeWhite takeNumber
 sixteen = (refl, refl, refl, refl, refl)
 
 pub image : (greyParsed (asBytes "P5 3 2 255 " ++ replicate 6 9) ≡ Image 3 2 11) × (greyParsed (asBytes "P5 3 2 255 " ++ replicate 7 9) ≡ Refused 22)
-unfolding greyParsed headOf headerOf byte white number
+unfolding greyParsed headOf headerOf takeByte takeWhite takeNumber
 image = (refl, refl)
 
 pub beside-figure : greyRemark 0 ≡ []

@@ -12,7 +12,7 @@ use Rattle.pgm.specs.declared.Head.{Head}
 use Rattle.pgm.specs.declared.Head.the-variants.{Numbers, Missing}
 use Rattle.pgm.specs.declared.Pgm.{Pgm}
 use Rattle.pgm.specs.declared.Pgm.the-variants.{Image, Refused}
-use Rattle.pgm.specs.Read.{headOf, judged, frontRead, readOf, rasterBy, rasterOf}
+use Rattle.pgm.specs.Read.{headOf, pgmJudged, frontRead, readOf, rasterBy, rasterOf}
 use Rattle.pgm.proofs.Heads.{head-sized}
 
 -- an image is no refusal, and two numbers are two refusals
@@ -30,21 +30,21 @@ apart m n h e = let z : m ≡ n = cc in absurd (h z)
 module _ (front : List ℕ) (len : ℕ) where
   pub no-header : Missing ≡ headOf front → Refused 20 ≡ frontRead front len
   unfolding frontRead
-  no-header e = ap (judged len) e
+  no-header e = ap (pgmJudged len) e
 
   module _ (w h m s : ℕ) (e : Numbers w h m s ≡ headOf front) where
     pub other-maximum : (m ≡ 255 → ⊥) → Refused 21 ≡ frontRead front len
     unfolding frontRead
-    other-maximum a = sym (ap (judged len) (sym e) ∙ rw (ne-eqb m 255 a) refl)
+    other-maximum a = sym (ap (pgmJudged len) (sym e) ∙ rw (ne-eqb m 255 a) refl)
 
     module _ (a : m ≡ 255) where
       pub other-raster : (len ≡ s + w * h → ⊥) → Refused 22 ≡ frontRead front len
       unfolding frontRead
-      other-raster b = sym (ap (judged len) (sym e) ∙ rw (eq-eqb m 255 a, ne-eqb len (s + w * h) b) refl)
+      other-raster b = sym (ap (pgmJudged len) (sym e) ∙ rw (eq-eqb m 255 a, ne-eqb len (s + w * h) b) refl)
 
       pub whole : len ≡ s + w * h → Image w h s ≡ frontRead front len
       unfolding frontRead
-      whole b = sym (ap (judged len) (sym e) ∙ rw (eq-eqb m 255 a, eq-eqb len (s + w * h) b) refl)
+      whole b = sym (ap (pgmJudged len) (sym e) ∙ rw (eq-eqb m 255 a, eq-eqb len (s + w * h) b) refl)
 
 -- ---- from the judgement to the header
 
@@ -53,7 +53,7 @@ module _ (len : ℕ) where
   abbrev chosen : ℕ → ℕ → ℕ → Bool → Bool → Pgm
   chosen w h s p q = cond (not p) (Refused 21) (cond (not q) (Refused 22) (Image w h s))
 
-  pub of-20 : (H : Head) → judged len H ≡ Refused 20 → H ≡ Missing
+  pub of-20 : (H : Head) → pgmJudged len H ≡ Refused 20 → H ≡ Missing
   of-20 Missing e = refl
   of-20 (Numbers w h m s) e = by (eqb m 255) (eqb len (s + w * h)) e
     where
@@ -62,7 +62,7 @@ module _ (len : ℕ) where
       by true false e = apart 22 20 (λ z. omega arith) e
       by false q e = apart 21 20 (λ z. omega arith) e
 
-  pub of-21 : (H : Head) → judged len H ≡ Refused 21 → (w : ℕ) × (h : ℕ) × (m : ℕ) × (s : ℕ) × (H ≡ Numbers w h m s) × (m ≡ 255 → ⊥)
+  pub of-21 : (H : Head) → pgmJudged len H ≡ Refused 21 → (w : ℕ) × (h : ℕ) × (m : ℕ) × (s : ℕ) × (H ≡ Numbers w h m s) × (m ≡ 255 → ⊥)
   of-21 Missing e = apart 20 21 (λ z. omega arith) e
   of-21 (Numbers w h m s) e = by (eqb m 255) (eqb len (s + w * h)) refl e
     where
@@ -71,7 +71,7 @@ module _ (len : ℕ) where
       by true false t e = apart 22 21 (λ z. omega arith) e
       by false q t e = (w, h, m, s, refl, eqb-false m 255 t)
 
-  pub of-22 : (H : Head) → judged len H ≡ Refused 22 → (w : ℕ) × (h : ℕ) × (s : ℕ) × (H ≡ Numbers w h 255 s) × (len ≡ s + w * h → ⊥)
+  pub of-22 : (H : Head) → pgmJudged len H ≡ Refused 22 → (w : ℕ) × (h : ℕ) × (s : ℕ) × (H ≡ Numbers w h 255 s) × (len ≡ s + w * h → ⊥)
   of-22 Missing e = apart 20 22 (λ z. omega arith) e
   of-22 (Numbers w h m s) e = by (eqb m 255) (eqb len (s + w * h)) refl refl e
     where
@@ -81,7 +81,7 @@ module _ (len : ℕ) where
       by true false t u e = (w, h, s, ap (λ (x : ℕ). Numbers w h x s) (eqb-true m 255 t), eqb-false len (s + w * h) u)
       by false q t u e = apart 21 22 (λ z. omega arith) e
 
-  pub of-image : (H : Head) (w h s : ℕ) → judged len H ≡ Image w h s → (H ≡ Numbers w h 255 s) × (len ≡ s + w * h)
+  pub of-image : (H : Head) (w h s : ℕ) → pgmJudged len H ≡ Image w h s → (H ≡ Numbers w h 255 s) × (len ≡ s + w * h)
   of-image Missing w h s e = clash e
   of-image (Numbers w′ h′ m s′) w h s e = by (eqb m 255) (eqb len (s′ + w′ * h′)) refl refl e
     where
@@ -96,7 +96,7 @@ module _ (len : ℕ) where
       by true false t u e = clash e
       by false q t u e = clash e
 
-  pub of-number : (H : Head) (n : ℕ) → judged len H ≡ Refused n → (n ≡ 20) ⊎ ((n ≡ 21) ⊎ (n ≡ 22))
+  pub of-number : (H : Head) (n : ℕ) → pgmJudged len H ≡ Refused n → (n ≡ 20) ⊎ ((n ≡ 21) ⊎ (n ≡ 22))
   of-number Missing n e = inl (same 20 n e)
     where
       same : (m n : ℕ) → Refused m ≡ Refused n → n ≡ m

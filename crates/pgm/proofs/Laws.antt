@@ -7,15 +7,14 @@ use native.Mathlib.Omega.{arith}
 use lib.ListN.{length, take, length-append}
 use lib.Seq.{drop-append-seam}
 use Rattle.text.specs.Numerals.{places, decimalOf}
-use Rattle.pgm.specs.declared.Head.the-variants.{Numbers}
 use Rattle.pgm.specs.declared.Pgm.the-variants.{Image, Refused}
 use Rattle.pgm.specs.Grammar.{White, Numeral, numberIn, Headed}
-use Rattle.pgm.specs.Read.{split, headOf, headerBytes, judged, frontRead, readOf, rasterBy, rasterOf}
-use Rattle.pgm.specs.File.{headerFor, Written}
+use Rattle.pgm.specs.Read.{split, headOf, headerBytes, pgmJudged, frontRead, readOf, rasterBy, rasterOf}
+use Rattle.pgm.specs.File.{headerFor, ImageFile}
 use Rattle.pgm.proofs.Splitting.{test-numeral, header-read, prefix}
 use Rattle.pgm.proofs.Decimal.{value-least, value-most, numeral-decimal, decimal-numeral}
 use Rattle.pgm.proofs.Heads.{head-read, head-stands, head-missing, head-front}
-use Rattle.pgm.proofs.Judging.{no-header, other-maximum, other-raster, whole, of-20, of-21, of-22, of-image, of-number}
+use Rattle.pgm.proofs.Judging.{other-maximum, other-raster, whole, of-20, of-21, of-22, of-image, of-number}
 
 -- a header stands at the front in one way
 pub one-header : {file : List ℕ} {w h m w′ h′ m′ : ℕ} {raster raster′ : List ℕ} → Headed file w h m raster → Headed file w′ h′ m′ raster′
@@ -33,7 +32,7 @@ module _ (file : List ℕ) where
   -- 20: no header stands at the front, however the file is split
   pub is-20 : (readOf file ≡ Refused 20) ↔ ((w h m : ℕ) (raster : List ℕ) → Headed file w h m raster → ⊥)
   unfolding readOf frontRead
-  is-20 = (λ e. head-missing file .0 (of-20 (length file) (headOf file) e), λ f. ap (judged (length file)) (head-missing file .1 f))
+  is-20 = (λ e. head-missing file .0 (of-20 (length file) (headOf file) e), λ f. ap (pgmJudged (length file)) (head-missing file .1 f))
 
   -- 21: one does, and its maximum is not 255
   pub is-21 : (readOf file ≡ Refused 21) ↔ ((w : ℕ) × (h : ℕ) × (m : ℕ) × (raster : List ℕ) × Headed file w h m raster × (m ≡ 255 → ⊥))
@@ -65,7 +64,7 @@ module _ (file : List ℕ) where
   -- as many first bytes as the longest header has, and the length, decide
   pub front-decides : (n : ℕ) → headerBytes ≤ n → frontRead (take n file) (length file) ≡ readOf file
   unfolding readOf frontRead
-  front-decides n enough = ap (judged (length file)) (head-front file n enough)
+  front-decides n enough = ap (pgmJudged (length file)) (head-front file n enough)
 
 -- the maximum as it is written
 maximum-is : (d : List ℕ) → Numeral d → numberIn d ≡ 255 → d ≡ 50 ∷ 53 ∷ 53 ∷ []
@@ -83,11 +82,11 @@ joined a b c d width height raster =
     (append-assoc width (b ∷ (height ++ c ∷ 50 ∷ 53 ∷ 53 ∷ d ∷ [])) raster ∙ ap (λ (l : List ℕ). width ++ b ∷ l) (append-assoc height (c ∷ 50 ∷ 53 ∷ 53 ∷ d ∷ []) raster))
 
 -- an image is read from exactly the files that are written so
-pub is-image : (file : List ℕ) (w h start : ℕ) → (readOf file ≡ Image w h start) ↔ Written file w h start
+pub is-image : (file : List ℕ) (w h start : ℕ) → (readOf file ≡ Image w h start) ↔ ImageFile file w h start
 unfolding readOf frontRead
 is-image file w h start = (reads, written)
   where
-    written : Written file w h start → readOf file ≡ Image w h start
+    written : ImageFile file w h start → readOf file ≡ Image w h start
     written f =
         sym (whole file (length file) w h 255 (length file - length (f .raster)) (sym (head-read headed)) refl (omega (arith, length-split headed, f .area)))
         ∙ ap (Image w h) (omega (arith, f .place, ap length (f .whole), length-append (headerFor (f .a) (f .b) (f .c) (f .d) w h) (f .raster)))
@@ -110,13 +109,13 @@ is-image file w h start = (reads, written)
               whole = f .whole ∙ joined (f .a) (f .b) (f .c) (f .d) (decimalOf w) (decimalOf h) (f .raster);
             }
 
-    reads : readOf file ≡ Image w h start → Written file w h start
+    reads : readOf file ≡ Image w h start → ImageFile file w h start
     reads e =
         let i = of-image (length file) (headOf file) w h start e in
         let b = head-stands file w h 255 start (i .0) in
         by (b .raster) (b .headed) (omega (arith, i .1, b .place)) (b .place)
       where
-        by : (raster : List ℕ) → Headed file w h 255 raster → length raster ≡ w * h → start + length raster ≡ length file → Written file w h start
+        by : (raster : List ℕ) → Headed file w h 255 raster → length raster ≡ w * h → start + length raster ≡ length file → ImageFile file w h start
         by raster s area place =
             record {
               a = s .a;

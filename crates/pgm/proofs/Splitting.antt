@@ -9,7 +9,7 @@ use lib.Dec.{leb, eqb}
 use lib.ListN.{length, getD, length-append}
 use borrow.Author.Tests.{leb-true, le-leb, eqb-true, eqb-false, ne-eqb, not-true}
 use Rattle.pgm.specs.Grammar.{White, Digit, Digits, Numeral, numberIn, Headed}
-use Rattle.pgm.specs.Read.{Opening, split, none, isWhite, isDigit, digitsOf, pastDigits, isNumeral, byte, white, number, field, headerOf}
+use Rattle.pgm.specs.Read.{Opening, split, none, isWhite, isDecimal, digitsOf, pastDigits, isNumeral, takeByte, takeWhite, takeNumber, takeField, headerOf}
 use Rattle.pgm.proofs.Runs.{both-true, digit-range, digit-on, digit-off, past-on, past-off}
 
 -- whitespace, by test and by proposition
@@ -26,10 +26,10 @@ white-by b false false false false e f g h t = absurd (true≢false (sym t))
 pub test-white : (b : ℕ) → isWhite b ≡ true → White b
 test-white b t = white-by b (eqb b 32) (eqb b 9) (eqb b 13) (eqb b 10) refl refl refl refl t
 
-white-no-digit : {b : ℕ} → White b → isDigit b ≡ false
-white-no-digit w = ⊎-elim (λ e. ap isDigit e) (⊎-elim (λ e. ap isDigit e) (⊎-elim (λ e. ap isDigit e) (λ e. ap isDigit e))) w
+white-no-digit : {b : ℕ} → White b → isDecimal b ≡ false
+white-no-digit w = ⊎-elim (λ e. ap isDecimal e) (⊎-elim (λ e. ap isDecimal e) (⊎-elim (λ e. ap isDecimal e) (λ e. ap isDecimal e))) w
 
-digit-test : (b : ℕ) → Digit b → isDigit b ≡ true
+digit-test : (b : ℕ) → Digit b → isDecimal b ≡ true
 digit-test b (p, q) = rw (le-leb 48 b p, le-leb b 57 q) refl
 
 -- a numeral, by test and by proposition
@@ -45,40 +45,40 @@ test-numeral d g t =
 -- the digits at the front are digits, and with what stands after them they are the whole
 are-digits : (l : List ℕ) → Digits (digitsOf l)
 are-digits [] = tt
-are-digits (b ∷ l) = go (isDigit b) refl (are-digits l)
+are-digits (b ∷ l) = go (isDecimal b) refl (are-digits l)
   where
-    go : (t : Bool) → isDigit b ≡ t → Digits (digitsOf l) → Digits (cond t (b ∷ digitsOf l) [])
+    go : (t : Bool) → isDecimal b ≡ t → Digits (digitsOf l) → Digits (cond t (b ∷ digitsOf l) [])
     go true e g = (digit-range b e, g)
     go false e g = tt
 
 together : (l : List ℕ) → digitsOf l ++ pastDigits l ≡ l
 together [] = refl
-together (b ∷ l) = go (isDigit b) (together l)
+together (b ∷ l) = go (isDecimal b) (together l)
   where
     go : (t : Bool) → digitsOf l ++ pastDigits l ≡ l → cond t (b ∷ digitsOf l) [] ++ cond t (pastDigits l) (b ∷ l) ≡ b ∷ l
     go true e = ap (λ (m : List ℕ). b ∷ m) e
     go false e = refl
 
 -- digits end at a byte that is none
-ends : (d : List ℕ) (x : ℕ) (l : List ℕ) → Digits d → isDigit x ≡ false → digitsOf (d ++ x ∷ l) ≡ d
+ends : (d : List ℕ) (x : ℕ) (l : List ℕ) → Digits d → isDecimal x ≡ false → digitsOf (d ++ x ∷ l) ≡ d
 ends [] x l g e = digit-off x l e
 ends (b ∷ d) x l (p, g) e = digit-on b (d ++ x ∷ l) (digit-test b p) ∙ ap (λ (m : List ℕ). b ∷ m) (ends d x l g e)
 
-rests : (d : List ℕ) (x : ℕ) (l : List ℕ) → Digits d → isDigit x ≡ false → pastDigits (d ++ x ∷ l) ≡ x ∷ l
+rests : (d : List ℕ) (x : ℕ) (l : List ℕ) → Digits d → isDecimal x ≡ false → pastDigits (d ++ x ∷ l) ≡ x ∷ l
 rests [] x l g e = past-off x l e
 rests (b ∷ d) x l (p, g) e = past-on b (d ++ x ∷ l) (digit-test b p) ∙ rests d x l g e
 
 -- what stands there is read
-white-read : (x : ℕ) (l : List ℕ) (go : List ℕ → Opening) → White x → white (x ∷ l) go ≡ go l
-unfolding white
+white-read : (x : ℕ) (l : List ℕ) (go : List ℕ → Opening) → White x → takeWhite (x ∷ l) go ≡ go l
+unfolding takeWhite
 white-read x l go w = ap (λ (t : Bool). cond t (go l) none) (white-test w)
 
-field-read : (d : List ℕ) (x : ℕ) (l : List ℕ) (go : ℕ → List ℕ → Opening) → Numeral d → White x → field (d ++ x ∷ l) go ≡ go (numberIn d) l
-unfolding number
+field-read : (d : List ℕ) (x : ℕ) (l : List ℕ) (go : ℕ → List ℕ → Opening) → Numeral d → White x → takeField (d ++ x ∷ l) go ≡ go (numberIn d) l
+unfolding takeNumber
 field-read d x l go n w =
-    ap (λ (e : List ℕ). cond (isNumeral e) (white (pastDigits (d ++ x ∷ l)) (go (numberIn e))) none) (ends d x l (n .digits) (white-no-digit w))
-    ∙ ap (λ (t : Bool). cond t (white (pastDigits (d ++ x ∷ l)) (go (numberIn d))) none) (numeral-test n)
-    ∙ ap (λ (m : List ℕ). white m (go (numberIn d))) (rests d x l (n .digits) (white-no-digit w))
+    ap (λ (e : List ℕ). cond (isNumeral e) (takeWhite (pastDigits (d ++ x ∷ l)) (go (numberIn e))) none) (ends d x l (n .digits) (white-no-digit w))
+    ∙ ap (λ (t : Bool). cond t (takeWhite (pastDigits (d ++ x ∷ l)) (go (numberIn d))) none) (numeral-test n)
+    ∙ ap (λ (m : List ℕ). takeWhite m (go (numberIn d))) (rests d x l (n .digits) (white-no-digit w))
     ∙ white-read x l (go (numberIn d)) w
 
 -- what is read stands there
@@ -92,8 +92,8 @@ module _ (w h m : ℕ) (raster : List ℕ) where
       never : _≡_ {A = ℕ} 0 1 → ⊥
       never z = omega arith
 
-  byte-stands : (x : ℕ) (l : List ℕ) (go : List ℕ → Opening) → Is (byte x l go) → (l′ : List ℕ) × (l ≡ x ∷ l′) × Is (go l′)
-  unfolding byte
+  byte-stands : (x : ℕ) (l : List ℕ) (go : List ℕ → Opening) → Is (takeByte x l go) → (l′ : List ℕ) × (l ≡ x ∷ l′) × Is (go l′)
+  unfolding takeByte
   byte-stands x [] go i = not-none i
   byte-stands x (b ∷ l) go i = pick (eqb b x) refl i
     where
@@ -101,8 +101,8 @@ module _ (w h m : ℕ) (raster : List ℕ) where
       pick true e i = (l, ap (λ (y : ℕ). y ∷ l) (eqb-true b x e), i)
       pick false e i = not-none i
 
-  white-stands : (l : List ℕ) (go : List ℕ → Opening) → Is (white l go) → (x : ℕ) × (l′ : List ℕ) × White x × (l ≡ x ∷ l′) × Is (go l′)
-  unfolding white
+  white-stands : (l : List ℕ) (go : List ℕ → Opening) → Is (takeWhite l go) → (x : ℕ) × (l′ : List ℕ) × White x × (l ≡ x ∷ l′) × Is (go l′)
+  unfolding takeWhite
   white-stands [] go i = not-none i
   white-stands (b ∷ l) go i = pick (isWhite b) refl i
     where
@@ -110,12 +110,12 @@ module _ (w h m : ℕ) (raster : List ℕ) where
       pick true e i = (b, l, test-white b e, refl, i)
       pick false e i = not-none i
 
-  field-stands : (l : List ℕ) (go : ℕ → List ℕ → Opening) → Is (field l go)
+  field-stands : (l : List ℕ) (go : ℕ → List ℕ → Opening) → Is (takeField l go)
       → (d : List ℕ) × (x : ℕ) × (l′ : List ℕ) × Numeral d × White x × (l ≡ d ++ x ∷ l′) × Is (go (numberIn d) l′)
-  unfolding number
+  unfolding takeNumber
   field-stands l go i = pick (isNumeral (digitsOf l)) refl i
     where
-      pick : (t : Bool) → isNumeral (digitsOf l) ≡ t → Is (cond t (white (pastDigits l) (go (numberIn (digitsOf l)))) none)
+      pick : (t : Bool) → isNumeral (digitsOf l) ≡ t → Is (cond t (takeWhite (pastDigits l) (go (numberIn (digitsOf l)))) none)
           → (d : List ℕ) × (x : ℕ) × (l′ : List ℕ) × Numeral d × White x × (l ≡ d ++ x ∷ l′) × Is (go (numberIn d) l′)
       pick true e i =
           let s = white-stands (pastDigits l) (go (numberIn (digitsOf l))) i in
@@ -130,11 +130,11 @@ module _ (w h m : ℕ) (raster : List ℕ) where
   pub header-stands : (file : List ℕ) → headerOf file ≡ split w h m raster → Headed file w h m raster
   unfolding headerOf
   header-stands file i =
-      let s0 = byte-stands 80 file (λ l. byte 53 l λ l. white l λ l. field l λ w l. field l λ h l. field l λ m raster. split w h m raster) i in
-      let s1 = byte-stands 53 (s0 .0) (λ l. white l λ l. field l λ w l. field l λ h l. field l λ m raster. split w h m raster) (s0 .2) in
-      let s2 = white-stands (s1 .0) (λ l. field l λ w l. field l λ h l. field l λ m raster. split w h m raster) (s1 .2) in
-      let s3 = field-stands (s2 .1) (λ w l. field l λ h l. field l λ m raster. split w h m raster) (s2 .4) in
-      let s4 = field-stands (s3 .2) (λ h l. field l λ m raster. split (numberIn (s3 .0)) h m raster) (s3 .6) in
+      let s0 = byte-stands 80 file (λ l. takeByte 53 l λ l. takeWhite l λ l. takeField l λ w l. takeField l λ h l. takeField l λ m raster. split w h m raster) i in
+      let s1 = byte-stands 53 (s0 .0) (λ l. takeWhite l λ l. takeField l λ w l. takeField l λ h l. takeField l λ m raster. split w h m raster) (s0 .2) in
+      let s2 = white-stands (s1 .0) (λ l. takeField l λ w l. takeField l λ h l. takeField l λ m raster. split w h m raster) (s1 .2) in
+      let s3 = field-stands (s2 .1) (λ w l. takeField l λ h l. takeField l λ m raster. split w h m raster) (s2 .4) in
+      let s4 = field-stands (s3 .2) (λ h l. takeField l λ m raster. split (numberIn (s3 .0)) h m raster) (s3 .6) in
       let s5 = field-stands (s4 .2) (λ m raster. split (numberIn (s3 .0)) (numberIn (s4 .0)) m raster) (s4 .6) in
       let e = parts (numberIn (s3 .0)) (numberIn (s4 .0)) (numberIn (s5 .0)) (s5 .2) (s5 .6) in
       record {
@@ -155,12 +155,12 @@ module _ (w h m : ℕ) (raster : List ℕ) where
       parts w′ h′ m′ r′ e = ((cc), (cc), (cc), (cc))
 
 pub header-read : {file : List ℕ} {w h m : ℕ} {raster : List ℕ} → Headed file w h m raster → headerOf file ≡ split w h m raster
-unfolding headerOf byte
+unfolding headerOf takeByte
 header-read {file} {w} {h} {m} {raster} s =
     ap headerOf (s .whole)
-    ∙ white-read (s .a) from-width (λ l. field l λ w l. field l λ h l. field l λ m raster. split w h m raster) (s .whites .0)
-    ∙ field-read (s .width) (s .b) from-height (λ w l. field l λ h l. field l λ m raster. split w h m raster) (s .numerals .0) (s .whites .1)
-    ∙ field-read (s .height) (s .c) from-maximum (λ h l. field l λ m raster. split (numberIn (s .width)) h m raster) (s .numerals .1) (s .whites .2)
+    ∙ white-read (s .a) from-width (λ l. takeField l λ w l. takeField l λ h l. takeField l λ m raster. split w h m raster) (s .whites .0)
+    ∙ field-read (s .width) (s .b) from-height (λ w l. takeField l λ h l. takeField l λ m raster. split w h m raster) (s .numerals .0) (s .whites .1)
+    ∙ field-read (s .height) (s .c) from-maximum (λ h l. takeField l λ m raster. split (numberIn (s .width)) h m raster) (s .numerals .1) (s .whites .2)
     ∙ field-read (s .maximum) (s .d) raster (λ m raster. split (numberIn (s .width)) (numberIn (s .height)) m raster) (s .numerals .2) (s .whites .3)
     ∙ ap (λ (x : ℕ). split x (numberIn (s .height)) (numberIn (s .maximum)) raster) (s .values .0)
     ∙ ap (λ (x : ℕ). split w x (numberIn (s .maximum)) raster) (s .values .1)

@@ -5,12 +5,12 @@ use Rattle.text.specs.Text.{asBytes}
 use Rattle.text.specs.Numerals.{places, decimalOf}
 use Rattle.pgm.specs.declared.Head.the-variants.{Numbers, Missing}
 use Rattle.pgm.specs.declared.Pgm.the-variants.{Image, Refused}
-use Rattle.pgm.specs.Read.{byte, white, number, headerOf, headOf, headerBytes, frontRead, readOf, rasterOf}
+use Rattle.pgm.specs.Read.{takeByte, takeWhite, takeNumber, headerOf, headOf, headerBytes, frontRead, readOf, rasterOf}
 use Rattle.pgm.specs.File.{headerFor}
 
 -- each kind of whitespace; width before height; the raster is the rest
 pub small : (readOf (asBytes "P5\t3 2\r255\nxxxxxx") ≡ Image 3 2 11) × (rasterOf (asBytes "P5\t2 1\r255\nxy") ≡ asBytes "xy")
-unfolding readOf frontRead headOf headerOf byte white number rasterOf
+unfolding readOf frontRead headOf headerOf takeByte takeWhite takeNumber rasterOf
 small = (refl, refl)
 
 -- as the camera tool writes it
@@ -20,43 +20,43 @@ written = refl
 
 -- nothing wraps: 65,536 by 65,536 is no empty raster
 pub wide : (readOf (asBytes "P5 65536 65536 255\n") ≡ Refused 22) × (headOf (asBytes "P5 99999 1 255 ") ≡ Numbers 99999 1 255 15)
-unfolding readOf frontRead headOf headerOf byte white number
+unfolding readOf frontRead headOf headerOf takeByte takeWhite takeNumber
 wide = (refl, refl)
 
 -- the longest header is 21 bytes
 pub longest : (headOf (asBytes "P5 99999 99999 99999 ") ≡ Numbers 99999 99999 99999 21) × (headerBytes ≡ 21)
-unfolding headOf headerOf byte white number
+unfolding headOf headerOf takeByte takeWhite takeNumber
 longest = (refl, refl)
 
 -- the last whitespace byte is missing: 20 comes before 21
 pub cut : (readOf (asBytes "P5 2 1 100") ≡ Refused 20) × (readOf (asBytes "P5 2 1 100 ") ≡ Refused 21)
-unfolding readOf frontRead headOf headerOf byte white number
+unfolding readOf frontRead headOf headerOf takeByte takeWhite takeNumber
 cut = (refl, refl)
 
 -- 21 comes before 22
 pub maximum : (readOf (asBytes "P5 2 1 256 xx") ≡ Refused 21) × (readOf (asBytes "P5 2 1 99999 x") ≡ Refused 21)
-unfolding readOf frontRead headOf headerOf byte white number
+unfolding readOf frontRead headOf headerOf takeByte takeWhite takeNumber
 maximum = (refl, refl)
 
 -- a zero in front, and alone; six digits; a sign; no digit
 pub no-number : (headOf (asBytes "P5 2 1 0255 ") ≡ Missing) × (headOf (asBytes "P5 0 1 255 ") ≡ Missing) × (headOf (asBytes "P5 2 100000 255 ") ≡ Missing)
     × (headOf (asBytes "P5 +2 1 255 ") ≡ Missing) × (headOf (asBytes "P5  2 1 255 ") ≡ Missing)
-unfolding headOf headerOf byte white number
+unfolding headOf headerOf takeByte takeWhite takeNumber
 no-number = (refl, refl, refl, refl, refl)
 
 -- a comment; another kind of file; hex 0B and 0C, which are whitespace elsewhere
 pub other-kind : (headOf (asBytes "P5\n#\n2 1 255 ") ≡ Missing) × (headOf (asBytes "P2 2 1 255 ") ≡ Missing) × (headOf (asBytes "P52 1 255 ") ≡ Missing)
     × (headOf (80 ∷ 53 ∷ 11 ∷ asBytes "2 1 255 ") ≡ Missing) × (headOf (asBytes "P5 2 1 255" ++ 12 ∷ []) ≡ Missing)
-unfolding headOf headerOf byte white number
+unfolding headOf headerOf takeByte takeWhite takeNumber
 other-kind = (refl, refl, refl, refl, refl)
 
 -- after the maximum a second whitespace byte is the raster's first
 pub two-ends : (readOf (asBytes "P5 2 1 255\r\nxx") ≡ Refused 22) × (readOf (asBytes "P5 2 1 255\r\nx") ≡ Image 2 1 11)
-unfolding readOf frontRead headOf headerOf byte white number
+unfolding readOf frontRead headOf headerOf takeByte takeWhite takeNumber
 two-ends = (refl, refl)
 
 -- a byte short, a byte too many; the same by the first bytes alone
 pub lengths : (readOf (asBytes "P5 2 1 255 x") ≡ Refused 22) × (readOf (asBytes "P5 2 1 255 xxx") ≡ Refused 22)
     × (frontRead (asBytes "P5 2 1 255 x") 13 ≡ Image 2 1 11) × (frontRead (asBytes "P5 2 1 255 xx") 14 ≡ Refused 22)
-unfolding readOf frontRead headOf headerOf byte white number
+unfolding readOf frontRead headOf headerOf takeByte takeWhite takeNumber
 lengths = (refl, refl, refl, refl)

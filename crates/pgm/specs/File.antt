@@ -11,7 +11,7 @@ abbrev pub headerFor : ℕ → ℕ → ℕ → ℕ → ℕ → ℕ → List ℕ
 headerFor a b c d w h = 80 ∷ 53 ∷ a ∷ (decimalOf w ++ b ∷ (decimalOf h ++ c ∷ 50 ∷ 53 ∷ 53 ∷ d ∷ []))
 
 -- an image of w by h, its raster from place `start` on
-pub record Written (file : List ℕ) (w h start : ℕ) : Type 0 where
+pub record ImageFile (file : List ℕ) (w h start : ℕ) : Type 0 where
   pub a : ℕ
   pub b : ℕ
   pub c : ℕ

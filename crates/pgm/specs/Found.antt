@@ -18,6 +18,6 @@ onward file (Number n next) go = go n (drop next file)
 onward file Nothing go = none
 
 -- that place is one of the file, or its end
-abbrev pub Within : List ℕ → Found → Type 0
-Within file (Number n next) = next ≤ length file
-Within file Nothing = Unit {0}
+abbrev pub InFile : List ℕ → Found → Type 0
+InFile file (Number n next) = next ≤ length file
+InFile file Nothing = Unit {0}

@@ -18,41 +18,41 @@ pub data Opening : Type 0 where
 abbrev pub isWhite : ℕ → Bool
 isWhite b = eqb b 32 || (eqb b 9 || (eqb b 13 || eqb b 10))
 
-abbrev pub isDigit : ℕ → Bool
-isDigit b = leb 48 b && leb b 57
+abbrev pub isDecimal : ℕ → Bool
+isDecimal b = leb 48 b && leb b 57
 
 -- the digits at the front, as many as there are
 abbrev pub digitsOf : List ℕ → List ℕ
 digitsOf [] = []
-digitsOf (b ∷ l) = cond (isDigit b) (b ∷ digitsOf l) []
+digitsOf (b ∷ l) = cond (isDecimal b) (b ∷ digitsOf l) []
 
 -- what stands after them
 abbrev pub pastDigits : List ℕ → List ℕ
 pastDigits [] = []
-pastDigits (b ∷ l) = cond (isDigit b) (pastDigits l) (b ∷ l)
+pastDigits (b ∷ l) = cond (isDecimal b) (pastDigits l) (b ∷ l)
 
 -- 1 to 5 of them, the first not 0
 abbrev pub isNumeral : List ℕ → Bool
 isNumeral d = leb 1 (length d) && (leb (length d) 5 && not (eqb (getD d 0 0) 48))
 
-unfoldable pub byte : ℕ → List ℕ → (List ℕ → Opening) → Opening
-byte x [] go = none
-byte x (b ∷ l) go = cond (eqb b x) (go l) none
+unfoldable pub takeByte : ℕ → List ℕ → (List ℕ → Opening) → Opening
+takeByte x [] go = none
+takeByte x (b ∷ l) go = cond (eqb b x) (go l) none
 
-unfoldable pub white : List ℕ → (List ℕ → Opening) → Opening
-white [] go = none
-white (b ∷ l) go = cond (isWhite b) (go l) none
+unfoldable pub takeWhite : List ℕ → (List ℕ → Opening) → Opening
+takeWhite [] go = none
+takeWhite (b ∷ l) go = cond (isWhite b) (go l) none
 
-unfoldable pub number : List ℕ → (ℕ → List ℕ → Opening) → Opening
-number l go = cond (isNumeral (digitsOf l)) (go (numberIn (digitsOf l)) (pastDigits l)) none
+unfoldable pub takeNumber : List ℕ → (ℕ → List ℕ → Opening) → Opening
+takeNumber l go = cond (isNumeral (digitsOf l)) (go (numberIn (digitsOf l)) (pastDigits l)) none
 
 -- a number and one whitespace byte
-abbrev pub field : List ℕ → (ℕ → List ℕ → Opening) → Opening
-field l go = number l λ n l. white l (go n)
+abbrev pub takeField : List ℕ → (ℕ → List ℕ → Opening) → Opening
+takeField l go = takeNumber l λ n l. takeWhite l (go n)
 
 -- `P5`, whitespace, width, whitespace, height, whitespace, maximum, whitespace, and what is left
 unfoldable pub headerOf : List ℕ → Opening
-headerOf file = byte 80 file λ l. byte 53 l λ l. white l λ l. field l λ w l. field l λ h l. field l λ m raster. split w h m raster
+headerOf file = takeByte 80 file λ l. takeByte 53 l λ l. takeWhite l λ l. takeField l λ w l. takeField l λ h l. takeField l λ m raster. split w h m raster
 
 -- the header at a file's front by its numbers and the place after it
 abbrev pub headBy : List ℕ → Opening → Head
@@ -68,16 +68,16 @@ headerBytes = 2 + 4 + 3 * 5
 
 -- a file of `len` bytes by its header: 20 where there is none, 21 where the maximum is not 255, 22 where the raster, all that follows
 -- the header, is not w × h bytes: the first that applies
-abbrev pub judged : ℕ → Head → Pgm
-judged len Missing = Refused 20
-judged len (Numbers w h m start) =
+abbrev pub pgmJudged : ℕ → Head → Pgm
+pgmJudged len Missing = Refused 20
+pgmJudged len (Numbers w h m start) =
     cond (not (eqb m 255)) (Refused 21)
     (cond (not (eqb len (start + w * h))) (Refused 22)
     (Image w h start))
 
 -- by its first bytes, as far as they reach
 unfoldable pub frontRead : List ℕ → ℕ → Pgm
-frontRead front len = judged len (headOf front)
+frontRead front len = pgmJudged len (headOf front)
 
 -- a whole file
 unfoldable pub readOf : List ℕ → Pgm

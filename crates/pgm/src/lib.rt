@@ -3,8 +3,8 @@ ghost use mathlib.Core.Path.{_≡_};
 ghost use mathlib.Core.List.{List};
 ghost use Prim.Native.Nat.{ℕ, _≤_};
 ghost use lib.ListN.{length, getD, drop};
-ghost use Rattle.pgm.specs.Read.{Opening, isWhite, isDigit, number, field, headOf, frontRead, readOf, rasterOf};
-ghost use Rattle.pgm.specs.Found.{isMarked, onward, Within};
+ghost use Rattle.pgm.specs.Read.{Opening, isWhite, isDecimal, takeNumber, takeField, headOf, frontRead, readOf, rasterOf};
+ghost use Rattle.pgm.specs.Found.{isMarked, onward, InFile};
 
 // The image that a file holds, by its sides and its raster's first place, or why it holds none.
 pub enum Pgm {
@@ -50,7 +50,7 @@ fn is_white(b: u8) -> bool
 }
 
 fn is_digit(b: u8) -> bool
-    ensures { λ r. ⌜ r ≡ isDigit b ⌝ }
+    ensures { λ r. ⌜ r ≡ isDecimal b ⌝ }
 {
     if b < b'0' {
         return false;
@@ -80,8 +80,8 @@ fn wide(b: u8) -> usize
 // The number at a place: a sixth digit ends the search.
 fn number_at(file: &[u8], at: usize) -> Found
     requires { ⌜ at ≤ length (now file) ⌝ }
-    ensures { λ r. ⌜ ((go : ℕ → List ℕ → Opening) → number (drop at (now (file .entry))) go ≡ onward (now (file .entry)) r go) ⌝ }
-    ensures { λ r. ⌜ Within (now (file .entry)) r ⌝ }
+    ensures { λ r. ⌜ ((go : ℕ → List ℕ → Opening) → takeNumber (drop at (now (file .entry))) go ≡ onward (now (file .entry)) r go) ⌝ }
+    ensures { λ r. ⌜ InFile (now (file .entry)) r ⌝ }
 {
     let mut n: usize = 0;
     let mut k = at;
@@ -104,8 +104,8 @@ fn number_at(file: &[u8], at: usize) -> Found
 // The number at a place, with the whitespace byte after it.
 fn field_at(file: &[u8], at: usize) -> Found
     requires { ⌜ at ≤ length (now file) ⌝ }
-    ensures { λ r. ⌜ ((go : ℕ → List ℕ → Opening) → field (drop at (now (file .entry))) go ≡ onward (now (file .entry)) r go) ⌝ }
-    ensures { λ r. ⌜ Within (now (file .entry)) r ⌝ }
+    ensures { λ r. ⌜ ((go : ℕ → List ℕ → Opening) → takeField (drop at (now (file .entry))) go ≡ onward (now (file .entry)) r go) ⌝ }
+    ensures { λ r. ⌜ InFile (now (file .entry)) r ⌝ }
 {
     let found = number_at(file, at);
     let Found::Number(n, end) = found else {

@@ -11,9 +11,8 @@ use Rattle.pgm.specs.declared.Head.{Head}
 use Rattle.pgm.specs.declared.Head.the-variants.{Numbers, Missing}
 use Rattle.pgm.specs.declared.Pgm.{Pgm}
 use Rattle.pgm.specs.declared.Pgm.the-variants.{Image, Refused}
-use Rattle.pgm.specs.Grammar.{Headed}
 use Rattle.pgm.specs.Read.{headOf, headerBytes, frontRead, readOf}
-use Rattle.pgm.proofs.Heads.{missing-none, head-read, head-stands, head-missing, head-front}
+use Rattle.pgm.proofs.Heads.{missing-none, head-read, head-missing, head-front}
 use Rattle.pgm.proofs.Judging.{as-whole}
 use Rattle.pgm.proofs.Laws.{is-20, is-21, is-22, no-other, is-image, front-decides}
 use Rattle.vuzgari.specs.Grey.{headerShown, headerIn, numberFor}

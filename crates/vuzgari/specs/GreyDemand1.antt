@@ -6,7 +6,7 @@ use mathlib.Core.List.{List, [], _∷_, _++_}
 use Prim.Native.Nat.{ℕ, _*_, _-_, _≤_, _<_}
 use lib.ListN.{length, drop, take}
 use Rattle.pgm.specs.Grammar.{Headed}
-use Rattle.pgm.specs.File.{Written}
+use Rattle.pgm.specs.File.{ImageFile}
 use Rattle.pgm.specs.Read.{frontRead}
 use Rattle.vuzgari.specs.Records.{Shown}
 use Rattle.vuzgari.specs.Grey.{headerIn, numberFor}
@@ -34,7 +34,7 @@ pub record JudgeAtC (file : List ℕ) (number : ℕ) : Type 0 where
   pub header : (number ≡ 20) ↔ Headless file
   pub maximum : (number ≡ 21) ↔ ((w : ℕ) × (h : ℕ) × (m : ℕ) × (raster : List ℕ) × Headed file w h m raster × (m ≡ 255 → ⊥))
   pub raster : (number ≡ 22) ↔ ((w : ℕ) × (h : ℕ) × (raster : List ℕ) × Headed file w h 255 raster × (length raster ≡ w * h → ⊥))
-  pub image : (number ≡ 0) ↔ ((w : ℕ) × (h : ℕ) × (start : ℕ) × Written file w h start)
+  pub image : (number ≡ 0) ↔ ((w : ℕ) × (h : ℕ) × (start : ℕ) × ImageFile file w h start)
 
 abbrev pub HeaderMeetsAtC : List ℕ → List ℕ → Type 0
 HeaderMeetsAtC front fields = HeaderAtC front fields (headerIn front fields)

@@ -1,5 +1,5 @@
 -- The header, judged by the three tests in their order.
-use mathlib.Core.Path.{_≡_, refl, sym, _∙_}
+use mathlib.Core.Path.{refl, sym, _∙_}
 use native.Mathlib.Omega.{arith}
 use denote.Ref.{now}
 use Rattle.pgm.specs.declared.Head.the-variants.{Numbers, Missing}

@@ -4,7 +4,7 @@ use Prim.Native.Nat.{_-_}
 use native.Mathlib.Omega.{arith}
 use lib.ListN.{length, getD}
 use denote.Ref.{now}
-use Rattle.pgm.specs.Read.{isDigit}
+use Rattle.pgm.specs.Read.{isDecimal}
 use Rattle.pgm.proofs.Runs.{Run, known, run-start, run-room, run-step, run-long, run-none, run-zero, run-number, in-file, digit-range}
 use Rattle.pgm.proofs.number_at.Statement.{statement}
 use Rattle.pgm.proofs.number_at.Tie as tie
@@ -31,7 +31,7 @@ returns : tie.Need-returns Inv-loop μ-loop
 returns c =
     let t = c .before in
     let l = t .before .before .before in
-    (run-long (l .loop .inv) (known isDigit (now (l .before .before .args .file)) (l .loop .k) (t .before .before .peek .ensures) (t .before .is-digit .ensures) (t .if1 .taken)) (c .if2 .taken), tt)
+    (run-long (l .loop .inv) (known isDecimal (now (l .before .before .args .file)) (l .loop .k) (t .before .before .peek .ensures) (t .before .is-digit .ensures) (t .if1 .taken)) (c .if2 .taken), tt)
 
 mul-n : tie.Need-mul-n Inv-loop μ-loop
 mul-n c = omega (arith, run-room (c .before .before .before .before .loop .inv) (c .if2 .left))
@@ -50,7 +50,7 @@ sub-n c =
       arith,
       c .wide .ensures,
       c .before .peek2 .ensures,
-      digit-range (getD (now (l .before .before .args .file)) (l .loop .k) 0) (known isDigit (now (l .before .before .args .file)) (l .loop .k) (t .before .before .peek .ensures) (t .before .is-digit .ensures) (t .if1 .taken)),
+      digit-range (getD (now (l .before .before .args .file)) (l .loop .k) 0) (known isDecimal (now (l .before .before .args .file)) (l .loop .k) (t .before .before .peek .ensures) (t .before .is-digit .ensures) (t .if1 .taken)),
     )
 
 add-n : tie.Need-add-n Inv-loop μ-loop
@@ -62,32 +62,32 @@ add-n c =
       run-room (l .loop .inv) (c .before .before .if2 .left),
       c .wide .ensures,
       c .before .peek2 .ensures,
-      digit-range (getD (now (l .before .before .args .file)) (l .loop .k) 0) (known isDigit (now (l .before .before .args .file)) (l .loop .k) (t .before .before .peek .ensures) (t .before .is-digit .ensures) (t .if1 .taken)),
+      digit-range (getD (now (l .before .before .args .file)) (l .loop .k) 0) (known isDecimal (now (l .before .before .args .file)) (l .loop .k) (t .before .before .peek .ensures) (t .before .is-digit .ensures) (t .if1 .taken)),
     )
 
 add-k : tie.Need-add-k Inv-loop μ-loop
 add-k c =
     let t = c .before .before .before in
     let l = t .before .before .before in
-    omega (arith, in-file (now (l .before .before .args .file)) (l .loop .k) (known isDigit (now (l .before .before .args .file)) (l .loop .k) (t .before .before .peek .ensures) (t .before .is-digit .ensures) (t .if1 .taken)))
+    omega (arith, in-file (now (l .before .before .args .file)) (l .loop .k) (known isDecimal (now (l .before .before .args .file)) (l .loop .k) (t .before .before .peek .ensures) (t .before .is-digit .ensures) (t .if1 .taken)))
 
 loop-less : tie.Need-loop-less Inv-loop μ-loop
 loop-less c =
     let t = c .before .before .before in
     let l = t .before .before .before in
-    omega (arith, in-file (now (l .before .before .args .file)) (l .loop .k) (known isDigit (now (l .before .before .args .file)) (l .loop .k) (t .before .before .peek .ensures) (t .before .is-digit .ensures) (t .if1 .taken)))
+    omega (arith, in-file (now (l .before .before .args .file)) (l .loop .k) (known isDecimal (now (l .before .before .args .file)) (l .loop .k) (t .before .before .peek .ensures) (t .before .is-digit .ensures) (t .if1 .taken)))
 
 loop-again : tie.Need-loop-again Inv-loop μ-loop
 loop-again c =
     let t = c .before .before .before in
     let l = t .before .before .before in
-    run-step (c .wide .result) (l .loop .inv) (known isDigit (now (l .before .before .args .file)) (l .loop .k) (t .before .before .peek .ensures) (t .before .is-digit .ensures) (t .if1 .taken)) (c .before .before .if2 .left) (c .wide .ensures ∙ c .before .peek2 .ensures)
+    run-step (c .wide .result) (l .loop .inv) (known isDecimal (now (l .before .before .args .file)) (l .loop .k) (t .before .before .peek .ensures) (t .before .is-digit .ensures) (t .if1 .taken)) (c .before .before .if2 .left) (c .wide .ensures ∙ c .before .peek2 .ensures)
 
 returns-2 : tie.Need-returns-2 Inv-loop μ-loop
 returns-2 c =
     let t = c .before in
     let l = t .before .before .before in
-    (run-none (l .loop .inv) (known isDigit (now (l .before .before .args .file)) (l .loop .k) (t .before .before .peek .ensures) (t .before .is-digit .ensures) (t .if1 .left)) (c .if3 .taken), tt)
+    (run-none (l .loop .inv) (known isDecimal (now (l .before .before .args .file)) (l .loop .k) (t .before .before .peek .ensures) (t .before .is-digit .ensures) (t .if1 .left)) (c .if3 .taken), tt)
 
 peek-requires-3 : tie.Need-peek-requires-3 Inv-loop μ-loop
 peek-requires-3 c κs = tt
@@ -96,14 +96,14 @@ returns-3 : tie.Need-returns-3 Inv-loop μ-loop
 returns-3 c =
     let t = c .before .before .before in
     let l = t .before .before .before in
-    (run-zero (l .loop .inv) (known isDigit (now (l .before .before .args .file)) (l .loop .k) (t .before .before .peek .ensures) (t .before .is-digit .ensures) (t .if1 .left)) (c .before .before .if3 .left) (sym (c .before .peek3 .ensures) ∙ c .if4 .taken), tt)
+    (run-zero (l .loop .inv) (known isDecimal (now (l .before .before .args .file)) (l .loop .k) (t .before .before .peek .ensures) (t .before .is-digit .ensures) (t .if1 .left)) (c .before .before .if3 .left) (sym (c .before .peek3 .ensures) ∙ c .if4 .taken), tt)
 
 returns-4 : tie.Need-returns-4 Inv-loop μ-loop
 returns-4 c =
     let t = c .before .before .before in
     let l = t .before .before .before in
     let i = l .loop .inv in
-    (run-number i (known isDigit (now (l .before .before .args .file)) (l .loop .k) (t .before .before .peek .ensures) (t .before .is-digit .ensures) (t .if1 .left)) (c .before .before .if3 .left) (λ e. c .if4 .left (c .before .peek3 .ensures ∙ e)), i .high)
+    (run-number i (known isDecimal (now (l .before .before .args .file)) (l .loop .k) (t .before .before .peek .ensures) (t .before .is-digit .ensures) (t .if1 .left)) (c .before .before .if3 .left) (λ e. c .if4 .left (c .before .peek3 .ensures ∙ e)), i .high)
 
 pub number-at-spec : {M : Type 1} → statement M
 number-at-spec =
