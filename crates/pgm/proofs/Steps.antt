@@ -60,10 +60,6 @@ pub bounds : (file : List ℕ) (found : Found) (n after : ℕ) → InFile file f
 bounds file found n after b e = subst (λ (f : Found). InFile file f) e b
 
 -- the mark
-none-twice : (p : Bool) → cond p none none ≡ none
-none-twice true = refl
-none-twice false = refl
-
 three : (p q r : Bool) (x : Opening) → cond p (cond q (cond r x none) none) none ≡ cond (p && (q && r)) x none
 three true true r x = refl
 three true false r x = refl
