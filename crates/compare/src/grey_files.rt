@@ -18,7 +18,7 @@ pub extern "C" fn vuzgari_compare_pgmnoise(
     ensures { λ r. ⌜ Fronted (now (out .entry)) (greyOutput (now (input .entry))) r (now (out .exit)) ⌝ }
     ensures { λ r. ⌜ Fronted (now (remark .entry)) (greySaid (now (input .entry))) (now (said .exit)) (now (remark .exit)) ⌝ }
 {
-    let lengths = grey::pgmnoise(input, out, remark);
+    let lengths: lid::Lengths = grey::pgmnoise(input, out, remark);
     *said = lengths.remark;
     lengths.output
 }

@@ -20,7 +20,7 @@ fn main() {
     }
     let mut out = lid_bytes::report_room();
     let mut remark = grey::remark_room();
-    let lengths = grey::pgmnoise(&input[..n], &mut out, &mut remark);
+    let lengths: lid::Lengths = grey::pgmnoise(&input[..n], &mut out, &mut remark);
     let written = lengths.output;
     let said = lengths.remark;
     if !io::write_all(STDOUT_FILENO, &out[..written]) {
