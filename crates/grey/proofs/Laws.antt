@@ -2,12 +2,13 @@
 use mathlib.Core.Path.{_≡_, refl, ap, _∙_}
 use mathlib.Core.Bool.{Bool, true, false, cond, not, _||_}
 use mathlib.Core.Logic.{_↔_}
-use mathlib.Core.List.{List}
+use mathlib.Core.List.{List, _++_}
 use Prim.Native.Nat.{ℕ, _+_, _*_, _-_, _≤_, _<_}
 use native.Mathlib.Omega.{arith}
 use native.Mathlib.Nat.{mul-le-mul-left, mul-le-mul-right}
 use lib.Dec.{ltb, eqb}
 use lib.ListN.{length, drop, length-drop}
+use lib.Seq.{drop-append-seam}
 use borrow.Author.Tests.{le-ltb, eq-eqb}
 use Rattle.noise.specs.Refusals.{refusalOf}
 use Rattle.noise.specs.Call.{refused, noiseOf}
@@ -16,9 +17,11 @@ use Rattle.pgm.specs.declared.Head.{Head}
 use Rattle.pgm.specs.declared.Head.the-variants.{Numbers, Missing}
 use Rattle.pgm.specs.declared.Pgm.{Pgm}
 use Rattle.pgm.specs.declared.Pgm.the-variants.{Image, Refused}
-use Rattle.pgm.specs.Grammar.{Headed}
+use Rattle.pgm.specs.Grammar.{White, Headed}
+use Rattle.pgm.specs.File.{headerFor}
 use Rattle.pgm.specs.Read.{headOf, pgmJudged, frontRead, readOf}
 use Rattle.pgm.proofs.Heads.{Sized, head-read, head-stands, head-sized}
+use Rattle.pgm.proofs.Laws.{one-header, image-headed, written-read}
 use Rattle.grey.specs.Grey.{greyJudged, greyParsed, answerFound, greyAnswer}
 use Rattle.grey.proofs.Parsing.{at-16, of-16, of-image}
 
@@ -73,3 +76,24 @@ module _ (input : List ℕ) where
 
       z : Sized input w h 255 start
       z = head-sized input w h 255 start (i .0)
+
+-- a file that is written out, of few pixels, gets the noise call's answer for its raster
+pub written-measured : (a b c d w h : ℕ) (raster : List ℕ) → White a × White b × White c × White d → (1 ≤ w) × (w ≤ 99999) × (1 ≤ h) × (h ≤ 99999)
+    → length raster ≡ w * h → w * h ≤ mostPixels → greyAnswer (headerFor a b c d w h ++ raster) ≡ noiseOf raster w h false
+written-measured a b c d w h raster whites sides area few =
+    as-measured file w h (length header) (as-read file not-16 ∙ is) ∙ ap (λ (l : List ℕ). noiseOf l w h false) (drop-append-seam header raster)
+  where
+    header : List ℕ
+    header = headerFor a b c d w h
+
+    file : List ℕ
+    file = header ++ raster
+
+    is : readOf file ≡ Image w h (length header)
+    is = written-read a b c d w h raster whites sides area
+
+    not-16 : greyParsed file ≡ Refused 16 → ⊥
+    not-16 e =
+        let (w′, h′, raster′, s, n) = is-16 file .0 e in
+        let o = one-header s (image-headed file w h (length header) is .headed) in
+        omega (arith, n, few, ap (λ (x : ℕ). x * h′) (o .0) ∙ ap (λ (x : ℕ). w * x) (o .1))

@@ -13,7 +13,7 @@ use Rattle.pgm.specs.Read.{split, headOf, headerBytes, pgmJudged, frontR
 use Rattle.pgm.specs.File.{headerFor, ImageFile}
 use Rattle.pgm.proofs.Splitting.{test-numeral, header-read, prefix}
 use Rattle.pgm.proofs.Decimal.{value-least, value-most, numeral-decimal, decimal-numeral}
-use Rattle.pgm.proofs.Heads.{head-read, head-stands, head-missing, head-front}
+use Rattle.pgm.proofs.Heads.{Behind, head-read, head-stands, head-missing, head-front}
 use Rattle.pgm.proofs.Judging.{other-maximum, other-raster, whole, of-20, of-21, of-22, of-image, of-number}
 
 -- a header stands at the front in one way
@@ -65,6 +65,11 @@ module _ (file : List ℕ) where
   pub front-decides : (n : ℕ) → headerBytes ≤ n → frontRead (take n file) (length file) ≡ readOf file
   unfolding readOf frontRead
   front-decides n enough = ap (pgmJudged (length file)) (head-front file n enough)
+
+-- the split behind an image
+pub image-headed : (file : List ℕ) (w h start : ℕ) → readOf file ≡ Image w h start → Behind file w h 255 start
+unfolding readOf frontRead
+image-headed file w h start e = head-stands file w h 255 start (of-image (length file) (headOf file) w h start e .0)
 
 -- the maximum as it is written
 maximum-is : (d : List ℕ) → Numeral d → numberIn d ≡ 255 → d ≡ 50 ∷ 53 ∷ 53 ∷ []
