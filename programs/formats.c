@@ -56,11 +56,11 @@ static struct reading as_pgm(const struct front *front)
 struct readings readings_of(enum format asked, const struct front *front)
 {
     struct readings readings = {.front = *front};
-    if (may_be_pgm(asked, front)) {
-        readings.all[readings.count++] = as_pgm(front);
-    }
     if (asked != PGM) {
         readings.all[readings.count++] = as_lid(front);
+    }
+    if (may_be_pgm(asked, front)) {
+        readings.all[readings.count++] = as_pgm(front);
     }
     return readings;
 }
@@ -80,5 +80,5 @@ const struct reading *choose(const struct readings *readings, uint64_t length)
             return &readings->all[k];
         }
     }
-    return &readings->all[0];
+    return &readings->all[readings->count - 1];
 }

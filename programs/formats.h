@@ -16,7 +16,7 @@ struct front {
 /* Whether a file may be PGM, by what is asked for and its first two bytes. */
 bool may_be_pgm(enum format asked, const struct front *front);
 
-/* The readings that a file may have, one or two: PGM is the first. */
+/* The readings that a file may have, one or two: PGM is the last. */
 struct readings {
     struct front front;
     struct reading all[2];
@@ -26,7 +26,8 @@ struct readings {
 /* Lent are the first 4 bytes, of a file that may be PGM the first 21, or all that it has. */
 struct readings readings_of(enum format asked, const struct front *front);
 
-/* The reading of a file of so many bytes: the first that fits, and where none does the first. */
+/* The reading of a file of so many bytes: the first that fits, and where none does the last. Both fit only where the PGM
+   file would have a side above 16,384, so that a lid is all that can be measured. */
 const struct reading *choose(const struct readings *readings, uint64_t length);
 
 /* The number of a file of so many bytes that is read so: 15 of a lid, 20, 21 or 22 of a PGM file, or 0 where its length
