@@ -3,7 +3,7 @@
 //! in every lent slice, before and past it.
 
 use super::{calls::{numbered, Lent}, noise, random::Random, stored::{columns, Lines}, Image, Run, Stored, Topic, Value};
-use std::{array, collections::BTreeMap, fs, iter::repeat_with, str, sync::OnceLock};
+use std::{array, collections::{BTreeMap, BTreeSet}, fs, iter::repeat_with, str, sync::OnceLock};
 
 pub const TOPIC: Topic = Topic { name: "pgm", gate: true, compare, store: Some(store), speed: None };
 
@@ -31,7 +31,7 @@ const READ: usize = HEADER + 4_096 + 1;
 
 fn compare(run: &mut Run) {
     for (what, files) in lists() {
-        let files: Vec<File> = run.once(files.into_iter()).collect();
+        let files: Vec<File> = run.once(files).collect();
         compare_files(run, what, files.iter().cloned());
     }
     let seed = run.random("seeded").bits();
@@ -47,7 +47,7 @@ fn compare_files(run: &mut Run, what: &str, files: impl Iterator<Item = File> + 
     numbered(run, &format!("headers, {what}"), headers, HeaderCall::ours, HeaderCall::theirs, |left| left.0);
     numbered(run, &format!("judgements, {what}"), files.clone(), File::judged, File::judgement, |left| left.0);
     let (ours, theirs) = (|file: &File| told(file.read()), |file: &File| says(&answer(&file.read(), file.len())));
-    numbered(run, &format!("pgmnoise, {what}"), files, ours, theirs, |left| left.0.number());
+    numbered(run, &format!("pgmnoise, {what}"), files, ours, theirs, Said::number);
 }
 
 // The reading.
@@ -240,48 +240,69 @@ impl Value for HeaderCall {
     }
 }
 
-/// What the program writes: its lines, the remark, how long each is, and whether the input stays.
-type Said = (Report, Remark, [usize; 2], bool);
 type Report = Lent<u8, 320>;
 type Remark = Lent<u8, 448>;
 
-impl Report {
+/// What the program writes, and whether its input stays.
+#[derive(Clone, PartialEq)]
+struct Said {
+    report: Report,
+    remark: Remark,
+    lengths: [usize; 2],
+    kept: bool,
+}
+
+impl Said {
+    /// Room that holds other text.
+    fn room() -> Self {
+        let (report, remark) = (Lent::new(300, |k| b'a' + (k % 26) as u8), Lent::new(420, |k| b'A' + (k % 26) as u8));
+        Said { report, remark, lengths: [0; 2], kept: true }
+    }
+
     /// The first field of the line below the header.
     fn number(&self) -> u32 {
-        let text = str::from_utf8(self.lent()).expect("text");
+        let text = str::from_utf8(self.report.lent()).expect("text");
         text.lines().nth(1).and_then(|line| line.split(' ').next()?.parse().ok()).expect("a number")
     }
 }
 
-/// Room for a report and for a remark, with text in it already.
-fn rooms() -> (Report, Remark) {
-    (Lent::new(300, |k| b'a' + (k % 26) as u8), Lent::new(420, |k| b'A' + (k % 26) as u8))
+impl Value for Said {
+    fn same(&self, other: &Self) -> bool {
+        self == other
+    }
+    fn shown(&self) -> String {
+        let Said { report, remark, lengths, kept } = self;
+        let [report, remark] = [&report.held[..], &remark.held].map(|bytes| bytes.escape_ascii().to_string());
+        format!("[{report:?}, {remark:?}, {lengths:?}, {}]", if *kept { "input kept" } else { "input changed" })
+    }
 }
 
 fn told(mut input: Vec<u8>) -> Said {
     let len = input.len();
     // More behind, with which a header might go on.
     input.extend(b"55 1 1 255\n1");
-    let before = input.clone();
-    let ((mut out, mut remark), mut said) = (rooms(), 0);
-    let (from, written) = (input.as_mut_ptr(), [out.start(), remark.start()]);
-    let written = unsafe { vuzgari_compare_pgmnoise(from, len, written[0], out.len, written[1], remark.len, &mut said) };
-    (out, remark, [written, said], input == before)
+    let (before, mut said) = (input.clone(), Said::room());
+    let Said { report, remark, lengths: [written, remarked], kept } = &mut said;
+    let (from, out, room) = (input.as_mut_ptr(), report.start(), remark.start());
+    *written = unsafe { vuzgari_compare_pgmnoise(from, len, out, report.len, room, remark.len, remarked) };
+    *kept = input == before;
+    said
 }
 
 fn says(words: &[u32]) -> Said {
     let lines = format!("answer sigma milli b0 b1 b2 b3 rail rounds passes\n{}\n", noise::shown(words));
-    let remark = match words[0] {
+    let said = match words[0] {
         0 => String::new(),
         number => format!("pgmnoise: no figure, number {number}: {}\n", reason(number)),
     };
-    let (out, room) = rooms();
-    (out.with(lines.as_bytes()), room.with(remark.as_bytes()), [lines.len(), remark.len()], true)
+    let Said { report, remark, kept, .. } = Said::room();
+    let lengths = [lines.len(), said.len()];
+    Said { report: report.with(lines.as_bytes()), remark: remark.with(said.as_bytes()), lengths, kept }
 }
 
 // Fixed lists.
 
-/// The header of a good file, with line ends where the camera tool has them.
+/// The header of a good file, in three lines.
 fn head(w: u64, h: u64) -> String {
     format!("P5\n{w} {h}\n255\n")
 }
@@ -291,19 +312,19 @@ fn good(w: u64, h: u64) -> File {
 }
 
 /// Lists of files by what they vary.
-fn lists() -> [(&'static str, Vec<File>); 6] {
+fn lists() -> [(&'static str, Box<dyn Iterator<Item = File>>); 6] {
     [
-        ("good and broken", broken().collect()),
-        ("whitespace", whitespace().collect()),
-        ("a byte", byte_by_byte()),
-        ("numbers", numbers().collect()),
-        ("short strings", short_strings().collect()),
-        ("products", products()),
+        ("good and broken", Box::new(broken())),
+        ("whitespace", Box::new(whitespace())),
+        ("a byte", Box::new(byte_by_byte().into_iter())),
+        ("numbers", Box::new(numbers())),
+        ("short strings", Box::new(short_strings())),
+        ("products", Box::new(products().into_iter())),
     ]
 }
 
-/// Headers that keep the subset and such as break it by one thing, each with a raster for 26 by 26 pixels, a byte less, a byte more,
-/// and none.
+/// Headers that keep the subset and such as break it by one thing, each with a raster for 26 by 26 pixels, a byte less, a byte
+/// more, and none.
 fn broken() -> impl Iterator<Item = File> {
     HEADS.into_iter().flat_map(|head| [676, 675, 677, 0].map(|rest| File::new(head, rest)))
 }
@@ -377,15 +398,14 @@ fn short_strings() -> impl Iterator<Item = File> {
 fn products() -> Vec<File> {
     let near = (PIXELS - 4..=PIXELS + 4).flat_map(|n| (1..=n).filter(move |w| n % w == 0).map(move |w| [w, n / w]));
     let mut sides: Vec<[u64; 2]> = near.collect();
-    let wide = [1, 2, 16, 255, 256, 257, 4_095, 4_096, 4_097, 32_768, 42_949, 43_691, 65_535, 65_536, 65_537, 92_681, 98_304, 99_999];
+    let wide = [1, 2, 16, 255, 256, 257, 4_095, 4_096, 4_097, 32_768, 42_949, 43_691, 65_535, 65_536, 65_537, 98_304, 99_999];
     sides.extend(wide.into_iter().flat_map(|w| wide.map(|h| [w, h])));
     let mut all = vec![];
     for [w, h] in sides {
         let n = w * h;
-        let mut rests = vec![0, 1, n, n + 1, n - 1, n % (1 << 16), n % (1 << 31), n % (1 << 32), n + (1 << 32), h, w, u64::MAX - HEADER as u64];
-        rests.sort();
-        rests.dedup();
-        all.extend(rests.iter().map(|&rest| File::new(head(w, h), rest)));
+        let left = [16, 31, 32].map(|bits| n % (1 << bits));
+        let rests = BTreeSet::from([0, 1, n - 1, n, n + 1, n + (1 << 32), w, h, u64::MAX - HEADER as u64]);
+        all.extend(rests.into_iter().chain(left).map(|rest| File::new(head(w, h), rest)));
         all.extend([0, n].map(|rest| File::new(format!("P5 {w} {h} 254\n"), rest)));
     }
     all
@@ -493,7 +513,7 @@ fn measured(run: &mut Run) {
         images.take(run.size(2_000).min(20_000) as usize),
         |image| told(file(image)),
         |image| says(&answer(&file(image), file(image).len() as u64)),
-        |left| left.0.number(),
+        Said::number,
     );
 }
 
@@ -502,8 +522,8 @@ fn measured(run: &mut Run) {
 /// What each field of the program `stored_pgm` holds before a call.
 const HELD: u64 = 999;
 
-/// As the program `stored_pgm` reads them: how many of forty bytes are lent, how many fields or how long the file is, and the bytes,
-/// eight in a column.
+/// As the program `stored_pgm` reads them: how many of forty bytes are lent, how many fields or how long the file is, and the
+/// bytes, eight in a column.
 fn store() -> Stored {
     let mut lines = Lines::new(7);
     let whole = "P5 26 26 255\n".as_bytes();
@@ -513,7 +533,8 @@ fn store() -> Stored {
     }
     let spaces = (0..4).flat_map(|place| b" \t\r\n\x0b\x0c\0".map(|byte| spaced(place, byte, 676)));
     let long = ["P5 99999 99999 255\n", "P5 12345 54321 99999\n", "P5 123456 54321 255\n"].map(|head| File::new(head, 676));
-    for file in HEADS.map(|head| File::new(head, 676)).into_iter().chain(spaces).chain(long) {
+    let alone = ["P5 26 26 100", "P5 26 26 100\n", "P5 26 26 256", "P5 26 26 256\n"].map(|head| File::new(head, 0));
+    for file in HEADS.map(|head| File::new(head, 676)).into_iter().chain(spaces).chain(long).chain(alone) {
         store_header(&mut lines, &file.first(ROOM), file.lent(), 6);
         store_judge(&mut lines, &file.first(ROOM), file.lent(), file.len());
     }
