@@ -403,9 +403,9 @@ fn products() -> Vec<File> {
     let mut all = vec![];
     for [w, h] in sides {
         let n = w * h;
-        let left = [16, 31, 32].map(|bits| n % (1 << bits));
-        let rests = BTreeSet::from([0, 1, n - 1, n, n + 1, n + (1 << 32), w, h, u64::MAX - HEADER as u64]);
-        all.extend(rests.into_iter().chain(left).map(|rest| File::new(head(w, h), rest)));
+        let near = [0, 1, n - 1, n, n + 1, n + (1 << 32), w, h, u64::MAX - HEADER as u64];
+        let rests: BTreeSet<u64> = near.into_iter().chain([16, 31, 32].map(|bits| n % (1 << bits))).collect();
+        all.extend(rests.into_iter().map(|rest| File::new(head(w, h), rest)));
         all.extend([0, n].map(|rest| File::new(format!("P5 {w} {h} 254\n"), rest)));
     }
     all
