@@ -1,5 +1,5 @@
 -- What the program judges, in the words of document 02, and how it stands to the reader.
-use mathlib.Core.Path.{_≡_, refl, ap, _∙_}
+use mathlib.Core.Path.{_≡_, refl, sym, ap, _∙_}
 use mathlib.Core.Bool.{Bool, true, false, cond, not, _||_}
 use mathlib.Core.Logic.{_↔_}
 use mathlib.Core.List.{List, _++_}
@@ -12,7 +12,12 @@ use lib.Seq.{drop-append-seam}
 use borrow.Author.Tests.{le-ltb, eq-eqb}
 use Rattle.noise.specs.Refusals.{refusalOf}
 use Rattle.noise.specs.Call.{refused, noiseOf}
+use Rattle.little_endian.specs.Bytes.{bytesOf}
+use Rattle.little_endian.proofs.Laws.{value-bytes}
 use Rattle.lid_bytes.specs.Input.{mostPixels}
+use Rattle.lid_bytes.specs.Report.{reportOf}
+use Rattle.lid_bytes.proofs.Inputs.{whole}
+use Rattle.lid.specs.Answer.{answerParsed, lidAnswer, outputOf}
 use Rattle.pgm.specs.declared.Head.{Head}
 use Rattle.pgm.specs.declared.Head.the-variants.{Numbers, Missing}
 use Rattle.pgm.specs.declared.Pgm.{Pgm}
@@ -22,7 +27,7 @@ use Rattle.pgm.specs.File.{headerFor}
 use Rattle.pgm.specs.Read.{headOf, pgmJudged, frontRead, readOf}
 use Rattle.pgm.proofs.Heads.{Sized, head-read, head-stands, head-sized}
 use Rattle.pgm.proofs.Laws.{one-header, image-headed, written-read}
-use Rattle.grey.specs.Grey.{greyJudged, greyParsed, answerFound, greyAnswer}
+use Rattle.grey.specs.Grey.{greyJudged, greyParsed, answerFound, greyAnswer, greyOutput}
 use Rattle.grey.proofs.Parsing.{at-16, of-16, of-image}
 
 module _ (input : List ℕ) where
@@ -97,3 +102,22 @@ written-measured a b c d w h raster whites sides area few =
         let (w′, h′, raster′, s, n) = is-16 file .0 e in
         let o = one-header s (image-headed file w h (length header) is .headed) in
         omega (arith, n, few, ap (λ (x : ℕ). x * h′) (o .0) ∙ ap (λ (x : ℕ). w * x) (o .1))
+
+-- so does `lidnoise` for the lid of these sides and pixels: the two programs print the same lines
+lid-measured : (w h : ℕ) (raster : List ℕ) → w ≤ mostPixels → h ≤ mostPixels → length raster ≡ w * h → w * h ≤ mostPixels
+    → lidAnswer (bytesOf 2 w ++ bytesOf 2 h ++ raster) ≡ noiseOf raster w h false
+unfolding lidAnswer bytesOf
+lid-measured w h raster a b area few =
+    ap (answerParsed raster)
+    (sym (whole (bytesOf 2 w ++ bytesOf 2 h ++ raster) w h (sym (value-bytes 2 w (omega arith))) (sym (value-bytes 2 h (omega arith))) (omega arith) few (omega (arith, area))))
+
+pub as-lidnoise : (a b c d w h : ℕ) (raster : List ℕ) → White a × White b × White c × White d → (1 ≤ w) × (1 ≤ h) → length raster ≡ w * h → w * h ≤ mostPixels
+    → greyOutput (headerFor a b c d w h ++ raster) ≡ outputOf (bytesOf 2 w ++ bytesOf 2 h ++ raster)
+as-lidnoise a b c d w h raster whites sides area few =
+    ap reportOf (written-measured a b c d w h raster whites (sides .0, omega (arith, w-few), sides .1, omega (arith, h-few)) area few ∙ sym (lid-measured w h raster w-few h-few area few))
+  where
+    w-few : w ≤ mostPixels
+    w-few = omega (arith, few, mul-le-mul-left {m = 1} {n = h} w (sides .1))
+
+    h-few : h ≤ mostPixels
+    h-few = omega (arith, few, mul-le-mul-right {m = 1} {n = w} h (sides .0))

@@ -1,5 +1,6 @@
--- Inputs at the ends of what is taken, in the order of their causes; a remark.
+-- Inputs at the ends of what is taken, in the order of their causes; answers; remarks.
 use mathlib.Core.Path.{_≡_, refl}
+use mathlib.Core.Bool.{false}
 use mathlib.Core.List.{[], _++_}
 use lib.ListN.{replicate}
 use Rattle.text.specs.Text.{asBytes}
@@ -7,7 +8,9 @@ use Rattle.text.specs.Numerals.{places, decimalOf}
 use Rattle.reasons.specs.Reasons.{reasonOf, numberedOf}
 use Rattle.pgm.specs.declared.Pgm.the-variants.{Image, Refused}
 use Rattle.pgm.specs.Read.{takeByte, takeWhite, takeNumber, headerOf, headOf}
-use Rattle.grey.specs.Grey.{greyBytes, greyParsed}
+use Rattle.noise.specs.Refusals.{refusalOf}
+use Rattle.noise.specs.Call.{refused, noiseOf}
+use Rattle.grey.specs.Grey.{greyBytes, greyParsed, greyAnswer, greySaid}
 use Rattle.grey.specs.Remark.{greyRemark, greyRemarkBytes}
 
 -- 17 by 241 is 4,097 pixels, whatever follows: 16 comes before 22, and after 21 and 20; 64 by 64 is 4,096
@@ -19,6 +22,16 @@ sixteen = (refl, refl, refl, refl, refl)
 pub image : (greyParsed (asBytes "P5 3 2 255 " ++ replicate 6 9) ≡ Image 3 2 11) × (greyParsed (asBytes "P5 3 2 255 " ++ replicate 7 9) ≡ Refused 22)
 unfolding greyParsed headOf headerOf takeByte takeWhite takeNumber
 image = (refl, refl)
+
+-- zeros beside a number; the noise call of the raster, width before height
+pub answered : (greyAnswer (asBytes "P5 3 2 100 ") ≡ refused 21) × (greyAnswer (asBytes "P5 3 2 255 xxxxxx") ≡ refused 3)
+    × (greyAnswer (asBytes "P5 5 4 255 01234567890123456789") ≡ noiseOf (asBytes "01234567890123456789") 5 4 false)
+unfolding greyAnswer greyParsed headOf headerOf takeByte takeWhite takeNumber noiseOf refusalOf
+answered = (refl, refl, refl)
+
+pub said-of : greySaid (asBytes "P5 3 2 100 ") ≡ greyRemark 21
+unfolding greyAnswer greyParsed headOf headerOf takeByte takeWhite takeNumber
+said-of = refl
 
 pub beside-figure : greyRemark 0 ≡ []
 unfolding greyRemark

@@ -60,3 +60,8 @@ pub lengths : (readOf (asBytes "P5 2 1 255 x") ≡ Refused 22) × (readOf (asByt
     × (frontRead (asBytes "P5 2 1 255 x") 13 ≡ Image 2 1 11) × (frontRead (asBytes "P5 2 1 255 xx") 14 ≡ Refused 22)
 unfolding readOf frontRead headOf headerOf takeByte takeWhite takeNumber
 lengths = (refl, refl, refl, refl)
+
+-- a refused file has no raster
+pub no-raster : (rasterOf (asBytes "P5 2 1 255") ≡ []) × (rasterOf (asBytes "P5 2 1 254 xy") ≡ []) × (rasterOf (asBytes "P5 2 1 255 x") ≡ [])
+unfolding rasterOf readOf frontRead headOf headerOf takeByte takeWhite takeNumber
+no-raster = (refl, refl, refl)

@@ -1,5 +1,5 @@
 -- What C gets: numbers past 4,294,967,296, 4 for a short answer slice, the answer's bytes before what stood beyond them, and a
--- record written from an answer slice and read into fields.
+-- record written from an answer slice and read into fields; a grey file's header and judgement.
 use mathlib.Core.Path.{_≡_, refl}
 use mathlib.Core.List.{List, [], _∷_, _++_}
 use Prim.Native.Nat.{ℕ}
@@ -18,7 +18,9 @@ use Rattle.record.specs.Rule.{storedAnswer, sigmaTaken, countsTaken, allowed}
 use Rattle.record.specs.Records.{bytesAs, writtenAs, readAs}
 use Rattle.vuzgari.specs.Codes.{sizeCode, widthCode}
 use Rattle.vuzgari.specs.Noise.{shortFor, leftBytes}
+use Rattle.pgm.specs.Read.{takeByte, takeWhite, takeNumber, headerOf, headOf, frontRead}
 use Rattle.vuzgari.specs.Records.{writtenFor, readFor}
+use Rattle.vuzgari.specs.Grey.{headerIn, numberFor}
 
 pub sizes : (sizeCode (Windows 9174) ≡ 9174) × (sizeCode SideAbove ≡ 4294967297) × (sizeCode SideBelow ≡ 4294967299)
 sizes = (refl, refl, refl)
@@ -80,3 +82,26 @@ pub read-order : (readFor [] (replicate 9 8) ≡ record { number = 4; fields = r
     × (readFor (0x4E ∷ 0x46 ∷ replicate 33 0) (replicate 10 8) ≡ record { number = 19; fields = replicate 10 8 })
 unfolding readFor readAs numbersIn valueOf allowed
 read-order = (refl, refl, refl, refl)
+
+-- ---- grey files
+
+-- `P5 3 2 255 ` and the same with 254
+abbrev file255 : List ℕ
+file255 = 80 ∷ 53 ∷ 32 ∷ 51 ∷ 32 ∷ 50 ∷ 32 ∷ 50 ∷ 53 ∷ 53 ∷ 32 ∷ []
+
+abbrev file254 : List ℕ
+file254 = 80 ∷ 53 ∷ 32 ∷ 51 ∷ 32 ∷ 50 ∷ 32 ∷ 50 ∷ 53 ∷ 52 ∷ 32 ∷ []
+
+-- width, height, maximum and the raster's place before the field that was beyond; three fields are too few, whatever the bytes
+pub header-read : (headerIn file254 (replicate 5 8) ≡ record { number = 0; fields = 3 ∷ 2 ∷ 254 ∷ 11 ∷ 8 ∷ [] })
+    × (headerIn file255 (replicate 3 8) ≡ record { number = 4; fields = replicate 3 8 })
+    × (headerIn [] (replicate 3 8) ≡ record { number = 4; fields = replicate 3 8 })
+    × (headerIn [] (replicate 4 8) ≡ record { number = 20; fields = replicate 4 8 })
+unfolding headerIn headOf headerOf takeByte takeWhite takeNumber
+header-read = (refl, refl, refl, refl)
+
+-- six bytes are to follow the header's eleven
+pub judgements : (numberFor (frontRead file255 17) ≡ 0) × (numberFor (frontRead file255 16) ≡ 22) × (numberFor (frontRead file255 18) ≡ 22)
+    × (numberFor (frontRead file254 16) ≡ 21) × (numberFor (frontRead [] 17) ≡ 20)
+unfolding frontRead headOf headerOf takeByte takeWhite takeNumber
+judgements = (refl, refl, refl, refl, refl)
