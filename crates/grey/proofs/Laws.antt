@@ -103,7 +103,7 @@ written-measured a b c d w h raster whites sides area few =
         let o = one-header s (image-headed file w h (length header) is .headed) in
         omega (arith, n, few, ap (λ (x : ℕ). x * h′) (o .0) ∙ ap (λ (x : ℕ). w * x) (o .1))
 
--- so does `lidnoise` for the lid of these sides and pixels: the two programs print the same lines
+-- so does a lid of these sides and pixels
 lid-measured : (w h : ℕ) (raster : List ℕ) → w ≤ mostPixels → h ≤ mostPixels → length raster ≡ w * h → w * h ≤ mostPixels
     → lidAnswer (bytesOf 2 w ++ bytesOf 2 h ++ raster) ≡ noiseOf raster w h false
 unfolding lidAnswer bytesOf
@@ -111,6 +111,7 @@ lid-measured w h raster a b area few =
     ap (answerParsed raster)
     (sym (whole (bytesOf 2 w ++ bytesOf 2 h ++ raster) w h (sym (value-bytes 2 w (omega arith))) (sym (value-bytes 2 h (omega arith))) (omega arith) few (omega (arith, area))))
 
+-- so the two programs print the same lines
 pub as-lidnoise : (a b c d w h : ℕ) (raster : List ℕ) → White a × White b × White c × White d → (1 ≤ w) × (1 ≤ h) → length raster ≡ w * h → w * h ≤ mostPixels
     → greyOutput (headerFor a b c d w h ++ raster) ≡ outputOf (bytesOf 2 w ++ bytesOf 2 h ++ raster)
 as-lidnoise a b c d w h raster whites sides area few =

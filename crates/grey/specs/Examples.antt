@@ -24,10 +24,10 @@ unfolding greyParsed headOf headerOf takeByte takeWhite takeNumber
 image = (refl, refl)
 
 -- zeros beside a number; the noise call of the raster, width before height
-pub answered : (greyAnswer (asBytes "P5 3 2 100 ") ≡ refused 21) × (greyAnswer (asBytes "P5 3 2 255 xxxxxx") ≡ refused 3)
+pub answers : (greyAnswer (asBytes "P5 3 2 100 ") ≡ refused 21) × (greyAnswer (asBytes "P5 3 2 255 xxxxxx") ≡ refused 3)
     × (greyAnswer (asBytes "P5 5 4 255 01234567890123456789") ≡ noiseOf (asBytes "01234567890123456789") 5 4 false)
 unfolding greyAnswer greyParsed headOf headerOf takeByte takeWhite takeNumber noiseOf refusalOf
-answered = (refl, refl, refl)
+answers = (refl, refl, refl)
 
 pub said-of : greySaid (asBytes "P5 3 2 100 ") ≡ greyRemark 21
 unfolding greyAnswer greyParsed headOf headerOf takeByte takeWhite takeNumber

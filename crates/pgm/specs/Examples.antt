@@ -13,15 +13,20 @@ pub small : (readOf (asBytes "P5\t3 2\r255\nxxxxxx") ≡ Image 3 2 11) × (raste
 unfolding readOf frontRead headOf headerOf takeByte takeWhite takeNumber rasterOf
 small = (refl, refl)
 
--- as the camera tool writes it
+-- a header in three lines
 pub written : headerFor 10 32 10 10 26 4096 ≡ asBytes "P5\n26 4096\n255\n"
 unfolding decimalOf places
 written = refl
 
--- nothing wraps: 65,536 by 65,536 is no empty raster
-pub wide : (readOf (asBytes "P5 65536 65536 255\n") ≡ Refused 22) × (headOf (asBytes "P5 99999 1 255 ") ≡ Numbers 99999 1 255 15)
+-- 65,536 by 65,536 is no empty raster
+pub not-wrapped : readOf (asBytes "P5 65536 65536 255\n") ≡ Refused 22
 unfolding readOf frontRead headOf headerOf takeByte takeWhite takeNumber
-wide = (refl, refl)
+not-wrapped = refl
+
+-- the largest side, and the least
+pub widest : headOf (asBytes "P5 99999 1 255 ") ≡ Numbers 99999 1 255 15
+unfolding headOf headerOf takeByte takeWhite takeNumber
+widest = refl
 
 -- the longest header is 21 bytes
 pub longest : (headOf (asBytes "P5 99999 99999 99999 ") ≡ Numbers 99999 99999 99999 21) × (headerBytes ≡ 21)
@@ -44,7 +49,7 @@ pub no-number : (headOf (asBytes "P5 2 1 0255 ") ≡ Missing) × (headOf (asByte
 unfolding headOf headerOf takeByte takeWhite takeNumber
 no-number = (refl, refl, refl, refl, refl)
 
--- a comment; another kind of file; hex 0B and 0C, which are whitespace elsewhere
+-- a comment; another kind of file; no whitespace after the mark; hex 0B and 0C, which are whitespace elsewhere
 pub other-kind : (headOf (asBytes "P5\n#\n2 1 255 ") ≡ Missing) × (headOf (asBytes "P2 2 1 255 ") ≡ Missing) × (headOf (asBytes "P52 1 255 ") ≡ Missing)
     × (headOf (80 ∷ 53 ∷ 11 ∷ asBytes "2 1 255 ") ≡ Missing) × (headOf (asBytes "P5 2 1 255" ++ 12 ∷ []) ≡ Missing)
 unfolding headOf headerOf takeByte takeWhite takeNumber
@@ -55,7 +60,7 @@ pub two-ends : (readOf (asBytes "P5 2 1 255\r\nxx") ≡ Refused 22) × (readOf (
 unfolding readOf frontRead headOf headerOf takeByte takeWhite takeNumber
 two-ends = (refl, refl)
 
--- a byte short, a byte too many; the same by the first bytes alone
+-- a byte short, a byte too many; by first bytes, the length that the file is said to have decides
 pub lengths : (readOf (asBytes "P5 2 1 255 x") ≡ Refused 22) × (readOf (asBytes "P5 2 1 255 xxx") ≡ Refused 22)
     × (frontRead (asBytes "P5 2 1 255 x") 13 ≡ Image 2 1 11) × (frontRead (asBytes "P5 2 1 255 xx") 14 ≡ Refused 22)
 unfolding readOf frontRead headOf headerOf takeByte takeWhite takeNumber

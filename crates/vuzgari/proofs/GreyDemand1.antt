@@ -1,4 +1,4 @@
--- Demand 1 at the grey file's calls from C: 4 is judged first, and all else is the reader's. Assumes nothing.
+-- Demand 1 at the grey file's calls from C: 4 is judged first, and all else is the reader's.
 use mathlib.Core.Path.{_≡_, refl, sym, ap, _∙_, subst}
 use mathlib.Core.Logic.{_↔_, _⊎_, inl, inr}
 use mathlib.Core.List.{List}

@@ -16,9 +16,9 @@ use Rattle.noise.specs.Call.{refused}
 use Rattle.record.specs.Layout.{bytesIn, numbersIn}
 use Rattle.record.specs.Rule.{storedAnswer, sigmaTaken, countsTaken, allowed}
 use Rattle.record.specs.Records.{bytesAs, writtenAs, readAs}
+use Rattle.pgm.specs.Read.{takeByte, takeWhite, takeNumber, headerOf, headOf, frontRead}
 use Rattle.vuzgari.specs.Codes.{sizeCode, widthCode}
 use Rattle.vuzgari.specs.Noise.{shortFor, leftBytes}
-use Rattle.pgm.specs.Read.{takeByte, takeWhite, takeNumber, headerOf, headOf, frontRead}
 use Rattle.vuzgari.specs.Records.{writtenFor, readFor}
 use Rattle.vuzgari.specs.Grey.{headerIn, numberFor}
 
@@ -86,22 +86,22 @@ read-order = (refl, refl, refl, refl)
 -- ---- grey files
 
 -- `P5 3 2 255 ` and the same with 254
-abbrev file255 : List ℕ
-file255 = 80 ∷ 53 ∷ 32 ∷ 51 ∷ 32 ∷ 50 ∷ 32 ∷ 50 ∷ 53 ∷ 53 ∷ 32 ∷ []
+abbrev header255 : List ℕ
+header255 = 80 ∷ 53 ∷ 32 ∷ 51 ∷ 32 ∷ 50 ∷ 32 ∷ 50 ∷ 53 ∷ 53 ∷ 32 ∷ []
 
-abbrev file254 : List ℕ
-file254 = 80 ∷ 53 ∷ 32 ∷ 51 ∷ 32 ∷ 50 ∷ 32 ∷ 50 ∷ 53 ∷ 52 ∷ 32 ∷ []
+abbrev header254 : List ℕ
+header254 = 80 ∷ 53 ∷ 32 ∷ 51 ∷ 32 ∷ 50 ∷ 32 ∷ 50 ∷ 53 ∷ 52 ∷ 32 ∷ []
 
 -- width, height, maximum and the raster's place before the field that was beyond; three fields are too few, whatever the bytes
-pub header-read : (headerIn file254 (replicate 5 8) ≡ record { number = 0; fields = 3 ∷ 2 ∷ 254 ∷ 11 ∷ 8 ∷ [] })
-    × (headerIn file255 (replicate 3 8) ≡ record { number = 4; fields = replicate 3 8 })
+pub header-shown : (headerIn header254 (replicate 5 8) ≡ record { number = 0; fields = 3 ∷ 2 ∷ 254 ∷ 11 ∷ 8 ∷ [] })
+    × (headerIn header255 (replicate 3 8) ≡ record { number = 4; fields = replicate 3 8 })
     × (headerIn [] (replicate 3 8) ≡ record { number = 4; fields = replicate 3 8 })
     × (headerIn [] (replicate 4 8) ≡ record { number = 20; fields = replicate 4 8 })
 unfolding headerIn headOf headerOf takeByte takeWhite takeNumber
-header-read = (refl, refl, refl, refl)
+header-shown = (refl, refl, refl, refl)
 
 -- six bytes are to follow the header's eleven
-pub judgements : (numberFor (frontRead file255 17) ≡ 0) × (numberFor (frontRead file255 16) ≡ 22) × (numberFor (frontRead file255 18) ≡ 22)
-    × (numberFor (frontRead file254 16) ≡ 21) × (numberFor (frontRead [] 17) ≡ 20)
+pub judgements : (numberFor (frontRead header255 17) ≡ 0) × (numberFor (frontRead header255 16) ≡ 22) × (numberFor (frontRead header255 18) ≡ 22)
+    × (numberFor (frontRead header254 16) ≡ 21) × (numberFor (frontRead [] 17) ≡ 20)
 unfolding frontRead headOf headerOf takeByte takeWhite takeNumber
 judgements = (refl, refl, refl, refl, refl)

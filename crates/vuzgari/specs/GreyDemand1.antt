@@ -1,5 +1,5 @@
--- Demand 1 at the grey file's calls from C, for every argument: which number each gives and exactly when, and that the lent fields
--- change exactly after 0.
+-- Demand 1 at the grey file's calls from C: which number each gives and exactly when, and that the lent fields change exactly after 0.
+-- The header's is for every argument, the judgement's for the first bytes of a file, 21 of them or all.
 use mathlib.Core.Path.{_≡_}
 use mathlib.Core.Logic.{_↔_, _⊎_}
 use mathlib.Core.List.{List, [], _∷_, _++_}
@@ -27,7 +27,7 @@ pub record HeaderAtC (front fields : List ℕ) (x : Shown) : Type 0 where
   pub given : 4 ≤ length fields → (w h m : ℕ) (raster : List ℕ) → Headed front w h m raster
       → (x .number ≡ 0) × (x .fields ≡ (w ∷ h ∷ m ∷ (length front - length raster) ∷ []) ++ drop 4 fields)
 
--- judging a file by its first n bytes and its length
+-- judging a file
 pub record JudgeAtC (file : List ℕ) (number : ℕ) : Type 0 where
   -- no other number than 0, 20, 21 and 22
   pub only : (number ≡ 0) ⊎ (number ≡ 20) ⊎ (number ≡ 21) ⊎ (number ≡ 22)
@@ -39,5 +39,6 @@ pub record JudgeAtC (file : List ℕ) (number : ℕ) : Type 0 where
 abbrev pub HeaderMeetsAtC : List ℕ → List ℕ → Type 0
 HeaderMeetsAtC front fields = HeaderAtC front fields (headerIn front fields)
 
+-- by its first n bytes and its length
 abbrev pub JudgeMeetsAtC : List ℕ → ℕ → Type 0
 JudgeMeetsAtC file n = JudgeAtC file (numberFor (frontRead (take n file) (length file)))
