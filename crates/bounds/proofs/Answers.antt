@@ -1,26 +1,23 @@
 -- Every answer's sigma is an f32 from 0 to 409 (`sigma-is-number`), whatever the pixels, the sides and the work slices are.
-use mathlib.Core.Path.{_≡_, refl, sym, _∙_, subst}
-use mathlib.Core.Logic.{_⊎_, inl, inr}
+use mathlib.Core.Path.{_≡_, refl, subst}
 use mathlib.Core.Bool.{Bool, true, false, cond, _||_}
 use mathlib.Core.List.{List}
-use Prim.Native.Nat.{ℕ, suc, _+_, _-_, _*_, _^_, _≤_, _<_, min}
-use native.Mathlib.Nat.{le-trans, le-of-eq, div-lt-iff-lt-mul}
+use Prim.Native.Nat.{ℕ, _+_, _-_, _*_, _^_, _≤_}
+use native.Mathlib.Nat.{le-trans, le-of-eq}
 use native.Mathlib.Omega.{arith}
 use borrow.Author.Tests.{eqb-true}
 use lib.Dec.{T, eqb, lit≤, lit<}
 use lib.ListN.{length, getD, length-map}
-use lib.IntN.{ℤ, pos}
-use lib.Ieee.{Float, nan, inf, fin, binary32, ofBits, ofInt, fits, toBits, up, down}
-use lib.Ieee.Fits.{down-pos}
+use lib.IntN.{pos}
+use lib.Ieee.{Float, binary32, ofBits, ofInt, fits, toBits}
 use Rattle.laws.specs.Lists.{Each}
 use Rattle.laws.proofs.Choice.{cond-both}
-use Rattle.ieee.proofs.Naturals.{le-or-lt}
 use Rattle.ieee.proofs.Bounded.{Bounded, HoldsWhole, holds-whole, bounded-up, plus-zero-bounded}
 use Rattle.ieee.proofs.FromZero.{from-zero-to}
 use Rattle.window.specs.declared.WindowStats.{WindowStats}
 use Rattle.grid.specs.Step.{stepOf}
 use Rattle.grid.specs.Grid.{Sides}
-use Rattle.grid.specs.Needed.{firstW, secondW, neededOf}
+use Rattle.grid.specs.Needed.{firstW, secondW}
 use Rattle.grid.proofs.Places.{total-most}
 use Rattle.grid.proofs.Steps.{few}
 use Rattle.measure.specs.Figures.{figuresOf}
@@ -28,7 +25,8 @@ use Rattle.band.specs.Bands.{banded, sampleOf}
 use Rattle.band.proofs.Counting.{kept-most}
 use Rattle.sample.specs.Laid.{gate32, gatesOf, squaresOf}
 use Rattle.sample.proofs.Parts.{figures-long}
-use Rattle.milli.specs.Thousandths.{thousandths, milliOf}
+use Rattle.milli.specs.Thousandths.{milliOf}
+use Rattle.milli.proofs.Most.{milli-most}
 use Rattle.pass.specs.Pass.{startsBy, noiseIn, passOf}
 use Rattle.answer.specs.declared.Answer.{Answer}
 use Rattle.noise.specs.Answers.{endingIn, decided}
@@ -50,20 +48,6 @@ holds-thousand = holds-whole binary32 1000 1000 0 (lit< tt) refl (lit≤ tt)
 bits-most : toBits binary32 (ofInt binary32 (pos sigmaMost)) ≡ 0x43CC_8000
 unfolding ofInt toBits
 bits-most = refl
-
-fine-milli : (x : Float) → Fine x → milliOf x ≤ 1000 * sigmaMost
-unfolding milliOf
-fine-milli nan p = absurd (p .1)
-fine-milli (inf t) p = absurd (p .1)
-fine-milli (fin t m e) p =
-    cond-both (λ (k : ℕ). k ≤ 1000 * sigmaMost) t 0 (min (thousandths (m * up e) (down e)) (2 ^ 32 - 1)) (omega arith)
-    (low (thousandths (m * up e) (down e)) (div-lt-iff-lt-mul (down-pos e) .1 (less (m * up e) (down e) (p .1 .1) (down-pos e))))
-  where
-    low : (k : ℕ) → k < 1000 * sigmaMost + 1 → min k (2 ^ 32 - 1) ≤ 1000 * sigmaMost
-    low k h = omega arith
-
-    less : (a d : ℕ) → a ≤ sigmaMost * d → 0 < d → a * 1000 < (1000 * sigmaMost + 1) * d
-    less a d h D = omega arith
 
 number-law : (a : Answer) → Fine (a .sigma) → a .milli ≤ 1000 * sigmaMost → SigmaIsNumber a
 number-law a p m =
@@ -87,7 +71,7 @@ module _ (fs : List WindowStats) (many : length fs ≤ 2 ^ 28) (h : Each Small f
   ending-sigma : (rounds passes : ℕ) → SigmaIsNumber (endingIn (passOf fs) rounds passes)
   ending-sigma rounds passes =
       number-law (endingIn (passOf fs) rounds passes) pass-fine
-      (cond-both (λ (k : ℕ). k ≤ 1000 * sigmaMost) (eqb (passOf fs .number) 0) (milliOf (passOf fs .sigma)) 0 (fine-milli (passOf fs .sigma) pass-fine) (omega arith))
+      (cond-both (λ (k : ℕ). k ≤ 1000 * sigmaMost) (eqb (passOf fs .number) 0) (milliOf (passOf fs .sigma)) 0 (milli-most (passOf fs .sigma) sigmaMost (pass-fine .1)) (omega arith))
 
 -- ---- a refusal
 refused-sigma : (number : ℕ) → SigmaIsNumber (refused number)

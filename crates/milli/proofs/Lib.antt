@@ -1,2 +1,3 @@
 -- Laws on thousandths.
 pub mod Cutting
+pub mod Most
