@@ -1,10 +1,11 @@
-// The float helpers.
+// The float helpers, and thousandths.
 ghost use mathlib.Core.Path.{_≡_};
 ghost use lib.Ieee.{binary32, binary64};
 ghost use Rattle.ieee.specs.Order.{larger, smaller, magnitude, finite, totalLess};
 ghost use Rattle.ieee.specs.Floor.{floor};
 ghost use Rattle.ieee.specs.Convert.{convert};
 ghost use Rattle.ieee.specs.Sqrt.{sqrt};
+ghost use Rattle.milli.specs.Thousandths.{milliOf};
 
 #[no_mangle]
 pub extern "C" fn vuzgari_compare_sqrt32(x: f32) -> f32
@@ -81,4 +82,11 @@ pub extern "C" fn vuzgari_compare_total_less64(a: f64, b: f64) -> bool
     ensures { λ r. ⌜ r ≡ totalLess a b ⌝ }
 {
     float::total_less64(a, b)
+}
+
+#[no_mangle]
+pub extern "C" fn vuzgari_compare_milli(x: f32) -> u32
+    ensures { λ r. ⌜ r ≡ milliOf x ⌝ }
+{
+    milli::milli(x)
 }
