@@ -1,3 +1,4 @@
 -- Laws on thousandths.
-pub mod Cutting
+pub mod Patterns
 pub mod Most
+pub mod Nearest

@@ -1,48 +1,63 @@
--- Sigmas whose product by 1,000 in f32 is rounded up to the next whole number, and what is said at the ends.
+-- Sigmas that other ways to round would answer otherwise, and what is said at the ends.
 use mathlib.Core.Path.{_≡_, refl}
-use Prim.Native.Nat.{ℕ}
+use Prim.Native.Nat.{ℕ, _+_, _*_, _/_}
 use mathlib.Core.Bool.{true, false}
-use lib.Ieee.{nan, inf, ofBits, mul, toUnsigned, binary32}
+use lib.Ieee.{Float, nan, inf, fin, up, down, ofBits, mul, binary32}
 use Rattle.milli.specs.Thousandths.{milliOf}
 
--- 1,000 times the f32 with the pattern b, rounded to an f32 and cut
-pub by-product : ℕ → ℕ
-by-product b = toUnsigned 32 (mul binary32 (ofBits binary32 b) (ofBits binary32 0x447a_0000))
+-- 0.0625, 0.3125 and 0.1875 have a half, which goes up; to the even number it would be 62, 312 and 188
+pub halves :
+    (milliOf (ofBits binary32 0x3d80_0000) ≡ 63) × (milliOf (ofBits binary32 0x3ea0_0000) ≡ 313)
+    × (milliOf (ofBits binary32 0x3e40_0000) ≡ 188)
+unfolding milliOf ofBits
+halves = (refl, refl, refl)
 
--- the largest f32 below 1.999
-pub below-1999 : milliOf (ofBits binary32 0x3fff_df3b) ≡ 1998
-unfolding milliOf ofBits toUnsigned mul
-below-1999 = refl
-
-pub below-1999-rounded : by-product 0x3fff_df3b ≡ 1999
-unfolding by-product toUnsigned mul ofBits
-below-1999-rounded = refl
-
--- the f32 nearest to 10.7
-pub below-10700 : milliOf (ofBits binary32 0x412b_3333) ≡ 10699
-unfolding milliOf ofBits toUnsigned mul
-below-10700 = refl
-
-pub below-10700-rounded : by-product 0x412b_3333 ≡ 10700
-unfolding by-product toUnsigned mul ofBits
-below-10700-rounded = refl
-
--- 1.9996, and the largest sigma of an image
-pub at-19996 : milliOf (ofBits binary32 0x3fff_f2e5) ≡ 1999
-unfolding milliOf ofBits toUnsigned mul
+-- 1.9996, which cut down would have 1,999
+pub at-19996 : milliOf (ofBits binary32 0x3fff_f2e5) ≡ 2000
+unfolding milliOf ofBits
 at-19996 = refl
 
-pub largest-sigma : milliOf (ofBits binary32 0x43cc_1bfd) ≡ 408218
-unfolding milliOf ofBits toUnsigned mul
+-- the largest f32 below 1.9995, whose ten-thousandths, 19,995, would be rounded again to 2,000
+pub below-19995 : milliOf (ofBits binary32 0x3fff_ef9d) ≡ 1999
+unfolding milliOf ofBits
+below-19995 = refl
+
+-- the largest f32 below 1.9985, and the next one
+pub at-19985 : (milliOf (ofBits binary32 0x3fff_ced9) ≡ 1998) × (milliOf (ofBits binary32 0x3fff_ceda) ≡ 1999)
+unfolding milliOf ofBits
+at-19985 = (refl, refl)
+
+-- the whole number nearest to a float
+nearestTo : Float → ℕ
+nearestTo nan = 0
+nearestTo (inf s) = 0
+nearestTo (fin s m e) = (m * up e * 2 + down e) / (down e * 2)
+
+-- 1,000 times the f32 with the pattern b, rounded to an f32 and to the nearest whole number
+pub by-product : ℕ → ℕ
+by-product b = nearestTo (mul binary32 (ofBits binary32 b) (ofBits binary32 0x447a_0000))
+
+pub below-19985-rounded : by-product 0x3fff_ced9 ≡ 1999
+unfolding by-product nearestTo mul ofBits
+below-19985-rounded = refl
+
+-- the largest f32 below half a thousandth, and the next one
+pub least : (milliOf (ofBits binary32 0x3a03_126e) ≡ 0) × (milliOf (ofBits binary32 0x3a03_126f) ≡ 1)
+unfolding milliOf ofBits
+least = (refl, refl)
+
+-- the largest sigma of an image
+pub largest-sigma : milliOf (ofBits binary32 0x43cc_1bfd) ≡ 408219
+unfolding milliOf ofBits
 largest-sigma = refl
 
 -- the largest f32 whose thousandths fit 32 bits, and the next one
 pub fits-still : milliOf (ofBits binary32 0x4a83_126e) ≡ 4294967000
-unfolding milliOf ofBits toUnsigned mul
+unfolding milliOf ofBits
 fits-still = refl
 
 pub fits-no-more : milliOf (ofBits binary32 0x4a83_126f) ≡ 4294967295
-unfolding milliOf ofBits toUnsigned mul
+unfolding milliOf ofBits
 fits-no-more = refl
 
 -- a NaN and what is below zero give 0, minus zero too; infinity gives the largest

@@ -1,3 +1,4 @@
 -- Thousandths of a float.
 pub mod Thousandths
+pub mod Nearest
 pub mod Cases

@@ -1,7 +1,8 @@
-// Replays stored calls of the noise and edge calls and of the rounds: a list on standard input, what each call answers on standard
-// output. `oracle/compare --store twins` makes both anew.
+// Replays stored calls of the noise and edge calls, of the rounds and of thousandths: a list on standard input, what each call
+// answers on standard output. `oracle/compare --store twins` makes both anew.
 ghost use Prim.Native.Nat.{_<_, _^_};
 use compare::bands;
+use compare::floats;
 use libc::STDIN_FILENO;
 use libc::STDOUT_FILENO;
 
@@ -148,7 +149,8 @@ fn windows(gate: &[f32], square: &[f32], e1: usize, e2: usize, e3: usize, n: usi
 }
 
 // The call of line i, on an image and a list of windows that are carried from line to line: i starts an image, l sets the level of a
-// quarter, f fills, p sets a pixel, n and e ask for noise and width; b starts a list, w adds windows to a band, r asks for the rounds.
+// quarter, f fills, p sets a pixel, n and e ask for noise and width; b starts a list, w adds windows to a band, r asks for the rounds;
+// m asks for the thousandths of a pattern.
 fn call(
     text: &[u8],
     i: usize,
@@ -215,6 +217,9 @@ fn call(
         edge(image, w, h, n, cx, cy);
     } else if letter == b'r' {
         windows(gate, square, ends[0], ends[1], ends[2], ends[3]);
+    } else if letter == b'm' {
+        let x = stored::float_in(text, COLUMNS, i, 0);
+        stored::report_answer(b"milli", floats::vuzgari_compare_milli(x));
     } else {
         io::write_all(STDOUT_FILENO, b"a line that cannot be read");
     }

@@ -1,13 +1,18 @@
--- `milli` meets its contract: the digits, shifted down, are the thousandths of the value (proofs/Cutting.antt).
+-- `milli` meets its contract: the digits' halves of thousandths, an odd one up, are the thousandths of the value
+-- (proofs/Patterns.antt).
 use borrow.Author.Needs.{needs}
-use mathlib.Core.Path.{_≡_, sym, ap, subst}
+use mathlib.Core.Path.{_≡_, sym, ap, _∙_, subst}
 use mathlib.Core.Logic.{⊎-elim, inl, inr}
 use mathlib.Core.Bool.{not}
 use Prim.Native.Nat.{ℕ, _+_, _-_, _*_, _/_, _%_, _^_}
+use native.Mathlib.Nat.{div-le-self}
+use native.Mathlib.Omega.{arith}
 use lib.Dec.{T}
+use lib.Pow.{pow-pos}
 use lib.Ieee.{Float, binary32, fits, isNan, toBits}
 use Rattle.ieee.proofs.Tests.{no-nan}
-use Rattle.milli.proofs.Cutting.{milli-nan, milli-minus, milli-large, milli-over, milli-is, Part, part-in}
+use Rattle.milli.specs.Thousandths.{thousandths}
+use Rattle.milli.proofs.Patterns.{milli-nan, milli-minus, milli-large, milli-over, milli-is, Part, part-in, halves-up}
 use Rattle.milli.proofs.milli.Statement.{statement}
 use Rattle.milli.proofs.milli.Tie as tie
 
@@ -23,9 +28,13 @@ plain c = no-nan (x c) (c .if1 .left)
 part : (c : tie.Joined4) → Part (toBits binary32 (x (c .before .before .before .before)) / 2 ^ 23) (c .if4 .d)
 part c = ⊎-elim (λ w. inl (w .0 .taken, w .1)) (λ w. inr (w .0 .left, w .1)) (c .if4 .came)
 
--- the digits that are multiplied
-cut : (j : tie.Joined4) → j .before .wide .result * 1000 / 2 ^ (j .if4 .d) ≡ (2 ^ 23 + toBits binary32 (x (j .before .before .before .before)) % 2 ^ 23) * 1000 / 2 ^ (j .if4 .d)
-cut j = ap (λ (n : ℕ). n * 1000 / 2 ^ (j .if4 .d)) (j .before .wide .ensures)
+-- the code's q
+abbrev q : tie.Joined4 → ℕ
+q j = (j .before .wide .result * 2000 / 2 ^ (j .if4 .d) + 1) / 2
+
+-- of the digits that are multiplied
+is : (j : tie.Joined4) → q j ≡ thousandths (2 ^ 23 + toBits binary32 (x (j .before .before .before .before)) % 2 ^ 23) (2 ^ (j .if4 .d))
+is j = ap (λ (n : ℕ). (n * 2000 / 2 ^ (j .if4 .d) + 1) / 2) (j .before .wide .ensures) ∙ halves-up _ (2 ^ (j .if4 .d)) (pow-pos (j .if4 .d))
 
 returns : tie.Need-returns
 returns c = milli-nan (c .before .args .x) (c .if1 .taken)
@@ -48,17 +57,20 @@ wide-requires c κs = search needs
 sub-d : tie.Need-sub-d
 sub-d c = search needs
 
-mul-q : tie.Need-mul-q
-mul-q c = search needs
+mul-halves : tie.Need-mul-halves
+mul-halves c = search needs
 
-shr-q : tie.Need-shr-q
-shr-q c = part-in _ _ (part (c .before))
+shr-halves : tie.Need-shr-halves
+shr-halves c = part-in _ _ (part (c .before))
+
+add-q : tie.Need-add-q
+add-q c = omega (arith, div-le-self (c .before .before .wide .result * 2000) (2 ^ (c .before .if4 .d)), c .before .before .wide .ensures)
 
 returns-4 : tie.Need-returns-4
 returns-4 c =
     let j = c .before .before in
     let s = j .before .before .before .before in
-    milli-over (x s) (held s) (plain s) (j .before .before .before .if2 .left) (j .if4 .d) (j .before .wide .result * 1000 / 2 ^ (j .if4 .d)) (j .before .before .if3 .left) (part j) (cut j) (c .if5 .taken)
+    milli-over (x s) (held s) (plain s) (j .before .before .before .if2 .left) (j .if4 .d) (q j) (j .before .before .if3 .left) (part j) (is j) (c .if5 .taken)
 
 cast-result : tie.Need-cast-result
 cast-result c = search needs
@@ -67,7 +79,7 @@ returns-5 : tie.Need-returns-5
 returns-5 c =
     let j = c .before .before in
     let s = j .before .before .before .before in
-    milli-is (x s) (held s) (plain s) (j .before .before .before .if2 .left) (j .if4 .d) (j .before .wide .result * 1000 / 2 ^ (j .if4 .d)) (j .before .before .if3 .left) (part j) (cut j) (c .if5 .left)
+    milli-is (x s) (held s) (plain s) (j .before .before .before .if2 .left) (j .if4 .d) (q j) (j .before .before .if3 .left) (part j) (is j) (c .if5 .left)
 
 pub milli-spec : {M : Type 1} → statement M
 milli-spec =
@@ -80,8 +92,9 @@ milli-spec =
     add-wide
     wide-requires
     sub-d
-    mul-q
-    shr-q
+    mul-halves
+    shr-halves
+    add-q
     returns-4
     cast-result
     returns-5)

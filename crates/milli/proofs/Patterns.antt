@@ -3,7 +3,7 @@ use mathlib.Core.Path.{_≡_, refl, sym, ap, _∙_, subst}
 use mathlib.Core.Bool.{Bool, true, false, not, cond}
 use mathlib.Core.Logic.{_⊎_, inl, inr}
 use Prim.Native.Nat.{ℕ, _+_, _-_, _*_, _/_, _%_, _^_, _≤_, _<_, min}
-use native.Mathlib.Nat.{le-div-iff-mul-le, div-eq-of-lt, mul-assoc, mul-right-comm, mul-le-mul, mul-le-mul-left, lt-of-lt-of-le, lt-of-le-of-lt, not-le-of-lt, eq-or-lt-of-le, eq-zero-or-pos, mod-eq-of-lt}
+use native.Mathlib.Nat.{le-div-iff-mul-le, div-eq-of-lt, add-div-right, div-div-eq-div-mul, mul-assoc, mul-le-mul, mul-le-mul-left, lt-of-lt-of-le, lt-of-le-of-lt, not-le-of-lt, eq-or-lt-of-le, eq-zero-or-pos, mod-eq-of-lt}
 use native.Mathlib.Omega.{arith}
 use lib.Dec.{T, lit≤}
 use lib.Pow.{pow-add, pow-pos, pow-mono, shl-lt}
@@ -22,20 +22,24 @@ use Rattle.milli.specs.Thousandths.{thousandths, milliOf}
 
 -- equal fractions have the same
 thousandths-same : (a b c d : ℕ) → 0 < b → 0 < d → a * d ≡ c * b → thousandths a b ≡ thousandths c d
-thousandths-same a b c d B D e = div-same (a * 1000) b (c * 1000) d B D (mul-right-comm a 1000 d ∙ ap (λ (x : ℕ). x * 1000) e ∙ mul-right-comm c b 1000)
+thousandths-same a b c d B D e = div-same (a * 2000 + b) (b * 2) (c * 2000 + d) (d * 2) (omega arith) (omega arith) (omega arith)
+
+-- whole halves of them, and an odd one up
+pub halves-up : (a c : ℕ) → 0 < c → (a * 2000 / c + 1) / 2 ≡ thousandths a c
+halves-up a c C = ap (λ (h : ℕ). h / 2) (sym (add-div-right (a * 2000) C)) ∙ div-div-eq-div-mul (a * 2000 + c) c 2
 
 -- none below half a thousandth
 thousandths-none : (a c : ℕ) → a * 2000 < c → thousandths a c ≡ 0
 thousandths-none a c h = div-eq-of-lt (less a c h)
   where
-    less : (a c : ℕ) → a * 2000 < c → a * 1000 < c
+    less : (a c : ℕ) → a * 2000 < c → a * 2000 + c < c * 2
     less a c h = omega arith
 
 -- more than 32 bits hold, from 2 ^ 23 on
 thousandths-most : (a c : ℕ) → 0 < c → 2 ^ 23 * c ≤ a → min (thousandths a c) (2 ^ 32 - 1) ≡ 2 ^ 32 - 1
-thousandths-most a c C h = least (thousandths a c) (le-div-iff-mul-le C .1 (much a c h))
+thousandths-most a c C h = least (thousandths a c) (le-div-iff-mul-le (omega arith) .1 (much a c h))
   where
-    much : (a c : ℕ) → 2 ^ 23 * c ≤ a → (2 ^ 32 - 1) * c ≤ a * 1000
+    much : (a c : ℕ) → 2 ^ 23 * c ≤ a → (2 ^ 32 - 1) * (c * 2) ≤ a * 2000 + c
     much a c h = omega arith
 
     least : (t : ℕ) → 2 ^ 32 - 1 ≤ t → min t (2 ^ 32 - 1) ≡ 2 ^ 32 - 1

@@ -1,0 +1,93 @@
+-- Thousandths are the nearest whole number, halves going up, and no other number is.
+use mathlib.Core.Path.{_≡_, refl, sym, ap, _∙_, subst}
+use mathlib.Core.Logic.{_⊎_, inl, inr}
+use mathlib.Core.Bool.{Bool, true, false, cond, true≢false}
+use Prim.Native.Nat.{ℕ, _+_, _-_, _*_, _^_, _≤_, _<_, min}
+use native.Mathlib.Nat.{le-div-iff-mul-le, div-lt-iff-lt-mul, le-refl, le-trans, le-of-eq, le-of-lt, le-antisymm, lt-irrefl, eq-or-lt-of-le, mul-le-mul-right}
+use native.Mathlib.Omega.{arith}
+use lib.Ieee.{Float, nan, inf, fin, up, down}
+use lib.Ieee.Fits.{down-pos}
+use Rattle.ieee.proofs.Naturals.{le-or-lt}
+use Rattle.ieee.proofs.Bounded.{Bounded}
+use Rattle.milli.specs.Thousandths.{thousandths, milliOf}
+use Rattle.milli.specs.Nearest.{distance, Nearest, NearestTo}
+use Rattle.milli.proofs.Most.{at-most}
+
+-- ---- in units of c: v is 1,000 a, and t and k are whole numbers times c
+
+-- a k that is lower by c at least is no nearer than t, one that is higher by c at least is farther
+no-nearer-below : (v t k c : ℕ) → t * 2 ≤ v * 2 + c → k + c ≤ t → (v - t) + (t - v) ≤ (v - k) + (k - v)
+no-nearer-below v t k c h l = omega arith
+
+farther-above : (v t k c : ℕ) → 0 < c → v * 2 < t * 2 + c → t + c ≤ k → (v - t) + (t - v) < (v - k) + (k - v)
+farther-above v t k c C h l = omega arith
+
+next : (n k c : ℕ) → n < k → n * c + c ≤ k * c
+next n k c h = le-trans (le-of-eq (one n c)) (mul-le-mul-right {m = n + 1} {n = k} c (omega arith))
+  where
+    one : (n c : ℕ) → n * c + c ≡ (n + 1) * c
+    one n c = omega arith
+
+module _ (a c : ℕ) (C : 0 < c) where
+  abbrev t : ℕ
+  t = thousandths a c
+
+  -- half a unit above 1,000 a / c at most, and less than that below it
+  half-above : t * c * 2 ≤ a * 1000 * 2 + c
+  half-above = go t (le-div-iff-mul-le {k = c * 2} (omega arith) .0 (le-refl t))
+    where
+      go : (n : ℕ) → n * (c * 2) ≤ a * 2000 + c → n * c * 2 ≤ a * 1000 * 2 + c
+      go n h = omega arith
+
+  half-below : a * 1000 * 2 < t * c * 2 + c
+  half-below = go t (div-lt-iff-lt-mul {k = c * 2} (omega arith) .0 (omega arith))
+    where
+      go : (n : ℕ) → a * 2000 + c < (n + 1) * (c * 2) → a * 1000 * 2 < n * c * 2 + c
+      go n h = omega arith
+
+  farther : (k : ℕ) → t < k → distance a c t < distance a c k
+  farther k h = farther-above (a * 1000) (t * c) (k * c) c C half-below (next t k c h)
+
+  pub nearest-is : Nearest a c t
+  nearest-is = record { no-nearer = λ k. near k (le-or-lt k t); larger = λ k e. most k e (le-or-lt k t) }
+    where
+      below : (k : ℕ) → (k ≡ t) ⊎ (k < t) → distance a c t ≤ distance a c k
+      below k (inl e) = le-of-eq (ap (distance a c) (sym e))
+      below k (inr h) = no-nearer-below (a * 1000) (t * c) (k * c) c half-above (next k t c h)
+
+      near : (k : ℕ) → (k ≤ t) ⊎ (t < k) → distance a c t ≤ distance a c k
+      near k (inl h) = below k (eq-or-lt-of-le h)
+      near k (inr h) = le-of-lt (farther k h)
+
+      most : (k : ℕ) → distance a c k ≡ distance a c t → (k ≤ t) ⊎ (t < k) → k ≤ t
+      most k e (inl h) = h
+      most k e (inr h) = absurd (lt-irrefl (distance a c t) (subst (λ (d : ℕ). distance a c t < d) e (farther k h)))
+
+-- two that are nearest are one
+pub one-nearest : (a c n k : ℕ) → Nearest a c n → Nearest a c k → n ≡ k
+one-nearest a c n k p q =
+    let e = le-antisymm (p .no-nearer k) (q .no-nearer n) in
+    le-antisymm (q .larger n e) (p .larger k (sym e))
+
+-- ---- a float's
+
+-- whatever is nearest to 1,000 times a float is its milli, as far as 32 bits hold it
+pub milli-nearest : (x : Float) (n : ℕ) → NearestTo x n → milliOf x ≡ min n (2 ^ 32 - 1)
+unfolding milliOf
+milli-nearest nan n p = absurd p
+milli-nearest (inf s) n p = absurd p
+milli-nearest (fin s m e) n p =
+    ap (λ (b : Bool). cond b 0 (min (thousandths (m * up e) (down e)) (2 ^ 32 - 1))) (p .0)
+    ∙ ap (λ (k : ℕ). min k (2 ^ 32 - 1)) (one-nearest (m * up e) (down e) (thousandths (m * up e) (down e)) n (nearest-is (m * up e) (down e) (down-pos e)) (p .1))
+
+-- and its milli is the nearest, where 32 bits hold it
+pub nearest-milli : (x : Float) (n : ℕ) → Bounded x false n → 1000 * n < 2 ^ 32 → NearestTo x (milliOf x)
+unfolding milliOf
+nearest-milli nan n p h = absurd p
+nearest-milli (inf s) n p h = absurd p
+nearest-milli (fin true m e) n p h = absurd (true≢false (p .0))
+nearest-milli (fin false m e) n p h =
+    (refl, subst (Nearest (m * up e) (down e)) (held (thousandths (m * up e) (down e)) (at-most (m * up e) (down e) n (down-pos e) (p .1))) (nearest-is (m * up e) (down e) (down-pos e)))
+  where
+    held : (t : ℕ) → t ≤ 1000 * n → t ≡ min t (2 ^ 32 - 1)
+    held t l = omega arith
