@@ -1,6 +1,7 @@
--- The law.
+-- The laws.
 pub mod Answers
--- What it rests on, from the windows to sigma.
+pub mod Nearest
+-- What they rest on, from the windows to sigma.
 pub mod Constants
 pub mod Outputs
 pub mod Blocks

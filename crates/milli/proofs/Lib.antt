@@ -1,4 +1,4 @@
 -- Laws on thousandths.
 pub mod Patterns
-pub mod Most
 pub mod Nearest
+pub mod Most

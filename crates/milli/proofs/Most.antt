@@ -1,22 +1,25 @@
 -- The thousandths of what is at most a whole number n: 1,000 n at most.
+use mathlib.Core.Logic.{_⊎_, inl, inr}
 use mathlib.Core.Bool.{false}
 use Prim.Native.Nat.{ℕ, _+_, _-_, _*_, _^_, _≤_, _<_, min}
-use native.Mathlib.Nat.{div-lt-iff-lt-mul}
 use native.Mathlib.Omega.{arith}
 use lib.Ieee.{Float, nan, inf, fin, up, down}
 use lib.Ieee.Fits.{down-pos}
 use Rattle.laws.proofs.Choice.{cond-both}
+use Rattle.ieee.proofs.Naturals.{le-or-lt}
 use Rattle.ieee.proofs.Bounded.{Bounded}
 use Rattle.milli.specs.Thousandths.{thousandths, milliOf}
+use Rattle.milli.proofs.Nearest.{half-above, next}
 
-pub at-most : (a c n : ℕ) → 0 < c → a ≤ n * c → thousandths a c ≤ 1000 * n
-at-most a c n C h = go (thousandths a c) (div-lt-iff-lt-mul {k = c * 2} (omega arith) .1 (less a c n C h))
+at-most : (a c n : ℕ) → 0 < c → a ≤ n * c → thousandths a c ≤ 1000 * n
+at-most a c n C h = go (le-or-lt (thousandths a c) (1000 * n))
   where
-    less : (a c n : ℕ) → 0 < c → a ≤ n * c → a * 2000 + c < (1000 * n + 1) * (c * 2)
-    less a c n C h = omega arith
+    over : (s : ℕ) → s * 2 ≤ a * 1000 * 2 + c → 1000 * n * c + c ≤ s → ⊥
+    over s p q = omega arith
 
-    go : (t : ℕ) → t < 1000 * n + 1 → t ≤ 1000 * n
-    go t l = omega arith
+    go : (thousandths a c ≤ 1000 * n) ⊎ (1000 * n < thousandths a c) → thousandths a c ≤ 1000 * n
+    go (inl l) = l
+    go (inr l) = absurd (over (thousandths a c * c) (half-above a c C) (next (1000 * n) (thousandths a c) c l))
 
 pub milli-most : (x : Float) (n : ℕ) → Bounded x false n → milliOf x ≤ 1000 * n
 unfolding milliOf

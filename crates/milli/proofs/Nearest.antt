@@ -5,13 +5,13 @@ use mathlib.Core.Bool.{Bool, true, false, cond, true≢false}
 use Prim.Native.Nat.{ℕ, _+_, _-_, _*_, _^_, _≤_, _<_, min}
 use native.Mathlib.Nat.{le-div-iff-mul-le, div-lt-iff-lt-mul, le-refl, le-trans, le-of-eq, le-of-lt, le-antisymm, lt-irrefl, eq-or-lt-of-le, mul-le-mul-right}
 use native.Mathlib.Omega.{arith}
+use lib.Dec.{T}
 use lib.Ieee.{Float, nan, inf, fin, up, down}
 use lib.Ieee.Fits.{down-pos}
+use Rattle.ieee.specs.Order.{finite, negative}
 use Rattle.ieee.proofs.Naturals.{le-or-lt}
-use Rattle.ieee.proofs.Bounded.{Bounded}
 use Rattle.milli.specs.Thousandths.{thousandths, milliOf}
 use Rattle.milli.specs.Nearest.{distance, Nearest, NearestTo}
-use Rattle.milli.proofs.Most.{at-most}
 
 -- ---- in units of c: v is 1,000 a, and t and k are whole numbers times c
 
@@ -22,7 +22,7 @@ no-nearer-below v t k c h l = omega arith
 farther-above : (v t k c : ℕ) → 0 < c → v * 2 < t * 2 + c → t + c ≤ k → (v - t) + (t - v) < (v - k) + (k - v)
 farther-above v t k c C h l = omega arith
 
-next : (n k c : ℕ) → n < k → n * c + c ≤ k * c
+pub next : (n k c : ℕ) → n < k → n * c + c ≤ k * c
 next n k c h = le-trans (le-of-eq (one n c)) (mul-le-mul-right {m = n + 1} {n = k} c (omega arith))
   where
     one : (n c : ℕ) → n * c + c ≡ (n + 1) * c
@@ -32,18 +32,15 @@ module _ (a c : ℕ) (C : 0 < c) where
   abbrev t : ℕ
   t = thousandths a c
 
-  -- half a unit above 1,000 a / c at most, and less than that below it
-  half-above : t * c * 2 ≤ a * 1000 * 2 + c
-  half-above = go t (le-div-iff-mul-le {k = c * 2} (omega arith) .0 (le-refl t))
-    where
-      go : (n : ℕ) → n * (c * 2) ≤ a * 2000 + c → n * c * 2 ≤ a * 1000 * 2 + c
-      go n h = omega arith
+  -- above 1,000 a / c by a half at most, below it by less
+  pub half-above : t * c * 2 ≤ a * 1000 * 2 + c
+  half-above = omega (arith, le-div-iff-mul-le {k = c * 2} (omega arith) .0 (le-refl t))
 
   half-below : a * 1000 * 2 < t * c * 2 + c
-  half-below = go t (div-lt-iff-lt-mul {k = c * 2} (omega arith) .0 (omega arith))
+  half-below = omega (arith, div-lt-iff-lt-mul {k = c * 2} (omega arith) .0 (one-more t))
     where
-      go : (n : ℕ) → a * 2000 + c < (n + 1) * (c * 2) → a * 1000 * 2 < n * c * 2 + c
-      go n h = omega arith
+      one-more : (n : ℕ) → n < n + 1
+      one-more n = omega arith
 
   farther : (k : ℕ) → t < k → distance a c t < distance a c k
   farther k h = farther-above (a * 1000) (t * c) (k * c) c C half-below (next t k c h)
@@ -80,14 +77,14 @@ milli-nearest (fin s m e) n p =
     ap (λ (b : Bool). cond b 0 (min (thousandths (m * up e) (down e)) (2 ^ 32 - 1))) (p .0)
     ∙ ap (λ (k : ℕ). min k (2 ^ 32 - 1)) (one-nearest (m * up e) (down e) (thousandths (m * up e) (down e)) n (nearest-is (m * up e) (down e) (down-pos e)) (p .1))
 
--- and its milli is the nearest, where 32 bits hold it
-pub nearest-milli : (x : Float) (n : ℕ) → Bounded x false n → 1000 * n < 2 ^ 32 → NearestTo x (milliOf x)
-unfolding milliOf
-nearest-milli nan n p h = absurd p
-nearest-milli (inf s) n p h = absurd p
-nearest-milli (fin true m e) n p h = absurd (true≢false (p .0))
-nearest-milli (fin false m e) n p h =
-    (refl, subst (Nearest (m * up e) (down e)) (held (thousandths (m * up e) (down e)) (at-most (m * up e) (down e) n (down-pos e) (p .1))) (nearest-is (m * up e) (down e) (down-pos e)))
+-- and its milli is the nearest, where it is below the largest
+pub nearest-milli : (x : Float) → T (finite x) → negative x ≡ false → milliOf x < 2 ^ 32 - 1 → NearestTo x (milliOf x)
+unfolding milliOf finite negative
+nearest-milli nan f p h = absurd f
+nearest-milli (inf s) f p h = absurd f
+nearest-milli (fin true m e) f p h = absurd (true≢false p)
+nearest-milli (fin false m e) f p h =
+    (refl, subst (Nearest (m * up e) (down e)) (held (thousandths (m * up e) (down e)) h) (nearest-is (m * up e) (down e) (down-pos e)))
   where
-    held : (t : ℕ) → t ≤ 1000 * n → t ≡ min t (2 ^ 32 - 1)
+    held : (t : ℕ) → min t (2 ^ 32 - 1) < 2 ^ 32 - 1 → t ≡ min t (2 ^ 32 - 1)
     held t l = omega arith

@@ -28,17 +28,17 @@ unfolding milliOf ofBits
 at-19985 = (refl, refl)
 
 -- the whole number nearest to a float
-nearestTo : Float → ℕ
-nearestTo nan = 0
-nearestTo (inf s) = 0
-nearestTo (fin s m e) = (m * up e * 2 + down e) / (down e * 2)
+toWhole : Float → ℕ
+toWhole nan = 0
+toWhole (inf s) = 0
+toWhole (fin s m e) = (m * up e * 2 + down e) / (down e * 2)
 
 -- 1,000 times the f32 with the pattern b, rounded to an f32 and to the nearest whole number
 pub by-product : ℕ → ℕ
-by-product b = nearestTo (mul binary32 (ofBits binary32 b) (ofBits binary32 0x447a_0000))
+by-product b = toWhole (mul binary32 (ofBits binary32 b) (ofBits binary32 0x447a_0000))
 
 pub below-19985-rounded : by-product 0x3fff_ced9 ≡ 1999
-unfolding by-product nearestTo mul ofBits
+unfolding by-product toWhole mul ofBits
 below-19985-rounded = refl
 
 -- the largest f32 below half a thousandth, and the next one

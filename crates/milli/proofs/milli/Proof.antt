@@ -4,9 +4,11 @@ use borrow.Author.Needs.{needs}
 use mathlib.Core.Path.{_≡_, sym, ap, _∙_, subst}
 use mathlib.Core.Logic.{⊎-elim, inl, inr}
 use mathlib.Core.Bool.{not}
-use Prim.Native.Nat.{ℕ, _+_, _-_, _*_, _/_, _%_, _^_}
+use Prim.Native.Nat.{ℕ, _+_, _-_, _*_, _/_, _%_, _^_, _<_}
 use native.Mathlib.Nat.{div-le-self}
 use native.Mathlib.Omega.{arith}
+use mir.Syntax.{w64}
+use mir.Val.{Fits}
 use lib.Dec.{T}
 use lib.Pow.{pow-pos}
 use lib.Ieee.{Float, binary32, fits, isNan, toBits}
@@ -36,6 +38,9 @@ q j = (j .before .wide .result * 2000 / 2 ^ (j .if4 .d) + 1) / 2
 is : (j : tie.Joined4) → q j ≡ thousandths (2 ^ 23 + toBits binary32 (x (j .before .before .before .before)) % 2 ^ 23) (2 ^ (j .if4 .d))
 is j = ap (λ (n : ℕ). (n * 2000 / 2 ^ (j .if4 .d) + 1) / 2) (j .before .wide .ensures) ∙ halves-up _ (2 ^ (j .if4 .d)) (pow-pos (j .if4 .d))
 
+one-more : (n p : ℕ) → n < 2 ^ 63 → Fits w64 (n / p + 1)
+one-more n p h = omega (arith, div-le-self n p)
+
 returns : tie.Need-returns
 returns c = milli-nan (c .before .args .x) (c .if1 .taken)
 
@@ -64,7 +69,7 @@ shr-halves : tie.Need-shr-halves
 shr-halves c = part-in _ _ (part (c .before))
 
 add-q : tie.Need-add-q
-add-q c = omega (arith, div-le-self (c .before .before .wide .result * 2000) (2 ^ (c .before .if4 .d)), c .before .before .wide .ensures)
+add-q c = one-more _ _ (omega (arith, c .before .before .wide .ensures))
 
 returns-4 : tie.Need-returns-4
 returns-4 c =
