@@ -77,7 +77,7 @@ inf-is = refl
 
 -- ---- by the pattern, with the sign clear
 
--- the d of the code: the value is the digits over 2 ^ d, or both have no thousandths
+-- the d of the code: the value is the digits over 2 ^ d, or neither has half a thousandth
 abbrev pub Part : ℕ → ℕ → Type 0
 Part field d = ((110 ≤ field) × (d ≡ 150 - field)) ⊎ ((field < 110) × (d ≡ 40))
 

@@ -21,6 +21,7 @@ pub fn milli(x: f32) -> u32
     }
     let digits = laws::wide(0x80_0000 + b % 0x80_0000);
     let d = if field >= 110 { 150 - field } else { 40 };
+    // whole halves of a thousandth, of which an odd one goes up
     let halves = digits * 2000 >> d;
     let q = (halves + 1) / 2;
     if q > 0xffff_ffff {
