@@ -20,14 +20,14 @@ struct named {
 };
 
 /* 297 x 4 windows, all of which the first pass looks at, and its bytes. */
-static const struct shot good = {0x01020304, 300, 7, {0, 0x40490FDB, 3141, 600, 300, 200, 80, 8, 4, 1}};
+static const struct shot good = {0x01020304, 300, 7, {0, 0x40490FDB, 3142, 600, 300, 200, 80, 8, 4, 1}};
 static const uint8_t good_bytes[BYTES] = {
     0x4E, 0x46, 0x04, 0x03, 0x02, 0x01, 0x2C, 0x01, 0x07, 0x00, 0x00, 0xDB, 0x0F, 0x49, 0x40, 0x58, 0x02, 0x00,
     0x00, 0x2C, 0x01, 0x00, 0x00, 0xC8, 0x00, 0x00, 0x00, 0x50, 0x00, 0x00, 0x00, 0x08, 0x00, 0x00, 0x00,
 };
 
 /* The same with sides that break the rule, one too low and one too high. */
-static const struct shot bad = {0x01020304, 3, 16385, {0, 0x40490FDB, 3141, 600, 300, 200, 80, 8, 4, 1}};
+static const struct shot bad = {0x01020304, 3, 16385, {0, 0x40490FDB, 3142, 600, 300, 200, 80, 8, 4, 1}};
 
 /* 26 by 26 has 529 windows in either pass, 91 by 91 has 44 x 44 and 88 x 88. 16,384 by 4 has one row of 16,381 places:
    the first pass looks at every third, the second at every other one. */
