@@ -37,7 +37,7 @@ static struct vuzgari_answer measure(const uint8_t *pixels, size_t w, size_t h)
     return answer;
 }
 
-/* Sigma is the noise as a float; milli is its thousandths, a whole number that prints the same everywhere. */
+/* Sigma is the noise as a float; milli is the nearest whole number of thousandths, which prints the same everywhere. */
 static void print(const char *name, struct vuzgari_answer answer)
 {
     if (answer.number == VUZGARI_GIVEN) {

@@ -23,7 +23,7 @@ extern "C" {
 
 /* The version of this header; the archive has its own, vuzgari_version(). 0.n promises nothing to programs built with
    another n: a call that changes or comes raises it. */
-#define VUZGARI_VERSION "0.3"
+#define VUZGARI_VERSION "0.4"
 
 const char *vuzgari_version(void);
 
@@ -81,11 +81,11 @@ uint32_t vuzgari_noise(const uint8_t *pixels, size_t pixels_len, size_t w, size_
                        uint8_t *answer, size_t answer_len);
 
 /* The noise call's answer. Counts are those of the last pass, rounds those of all. Sigma and milli are zero unless the
-   number is VUZGARI_GIVEN. */
+   number is VUZGARI_GIVEN. Milli may be up to half a thousandth off: who compares exactly takes sigma. */
 struct vuzgari_answer {
     uint32_t number;
     float sigma;       /* the noise, in levels of 0 to 255 */
-    uint32_t milli;    /* the floor of 1,000 times sigma */
+    uint32_t milli;    /* the whole number nearest to exactly 1,000 times sigma, halves going up */
     uint32_t bands[4]; /* the windows kept in each band of brightness, from dark to bright */
     uint32_t rail;     /* the windows dropped near black or white */
     uint32_t rounds;
