@@ -10,6 +10,7 @@ mod grid;
 mod gradients;
 mod known;
 mod lids;
+mod milli;
 mod misfit;
 mod model;
 mod noise;
@@ -33,6 +34,7 @@ pub const ALL: &[Topic] = &[
     grid::TOPIC,
     sample::TOPIC,
     rounds::TOPIC,
+    milli::TOPIC,
     noise::TOPIC,
     gradients::TOPIC,
     model::TOPIC,
