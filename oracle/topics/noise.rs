@@ -1,7 +1,7 @@
 //! The noise call and the sizing call as C makes them, beside the original with its counters: what is returned, the ten fields, and
 //! what is left in every lent slice and past it.
 
-use super::{beside, images::KINDS, random::Random, Count, Image, Run, Topic, Value};
+use super::{beside, images::KINDS, milli::nearest, random::Random, Count, Image, Run, Topic, Value};
 use original::{counted, counts, grid, noise};
 use std::{array, cell::RefCell, iter::repeat_with};
 
@@ -99,12 +99,10 @@ pub fn theirs(pixels: &[u8], w: usize, h: usize, lent: Lent) -> Left {
         return (number, vec![], String::new());
     }
     let (sigma, counts) = counts::counted(|| counted::estimate_noise_sigma_u8(pixels, w, h));
-    let sigma = sigma.unwrap_or(0.0);
-    // 24 binary digits times 1,000 fit an f64.
-    let milli = (f64::from(sigma) * 1000.0).floor() as u32;
+    let (sigma, milli) = sigma.map_or((0, 0), |sigma| (sigma.to_bits(), nearest(sigma.to_bits())));
     let [b0, b1, b2, b3, rail, rounds, passes] =
         [counts.bands[0], counts.bands[1], counts.bands[2], counts.bands[3], counts.rail, counts.rounds, counts.passes].map(|n| n as u32);
-    (counts.reason, vec![counts.reason, sigma.to_bits(), milli, b0, b1, b2, b3, rail, rounds, passes], String::new())
+    (counts.reason, vec![counts.reason, sigma, milli, b0, b1, b2, b3, rail, rounds, passes], String::new())
 }
 
 /// The ten fields of a call with memory enough; zeros beside a number that refuses.
