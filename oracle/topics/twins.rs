@@ -1,13 +1,13 @@
 //! oracle/twins.txt: inputs on which a float expression and a likely wrong form of it answer differently. Ours and the original's
-//! answers are both held to the one that the list has.
+//! answers, or the reading's of request A.3, are both held to the one that the list has.
 
-use super::{edge, gradients, model, noise, rounds, stored::Lines, Count, Run, Stored, Topic, Value};
+use super::{edge, gradients, milli, model, noise, rounds, stored::Lines, Count, Run, Stored, Topic, Value};
 use std::{array, rc::Rc};
 
 pub const TOPIC: Topic = Topic { name: "twins", gate: true, compare, store: Some(store), speed: None };
 
 const LIST: &str = include_str!("../twins.txt");
-const KINDS: [&str; 9] = ["image", "milli", "cells", "windows", "edge", "gram", "knots", "model", "total"];
+const KINDS: [&str; 10] = ["image", "milli", "thousandths", "cells", "windows", "edge", "gram", "knots", "model", "total"];
 
 /// A line of the list.
 #[derive(Clone)]
@@ -22,6 +22,8 @@ pub enum Input {
     Image(Image),
     /// Sigma and thousandths of an image.
     Milli(Image),
+    /// A pattern.
+    Thousandths(u32),
     Cells([usize; 2], Vec<u8>),
     Windows(rounds::Sample),
     Edge(edge::Call),
@@ -78,7 +80,7 @@ impl Twin {
         let (call, answer) = line.split_once(" is ").expect(line);
         let words: Vec<&str> = call.split(' ').collect();
         // SIGMA, WIDTH, GAIN and covariances are hexadecimal; the other numbers of an answer are decimal.
-        let decimal = |k: usize| matches!((words[0], k), ("image" | "cells" | "windows", 0 | 2) | ("milli", 1));
+        let decimal = |k: usize| matches!((words[0], k), ("image" | "cells" | "windows", 0 | 2) | ("milli", 1) | ("thousandths", 0));
         let answers = answer.split(' ').enumerate();
         let right = answers.map(|(k, word)| if decimal(k) { number(word) } else { u32::from_str_radix(word, 16).expect(line) }).collect();
         let after = |name: &str| words[words.iter().position(|&word| word == name).expect(line) + 1];
@@ -86,6 +88,7 @@ impl Twin {
         let input = match words[0] {
             "image" => Input::Image(image(&words)),
             "milli" => Input::Milli(image(&words)),
+            "thousandths" => Input::Thousandths(u32::from_str_radix(words[1], 16).expect(line)),
             "cells" => Input::Cells(sides(), cells(sides(), &words[3..])),
             "windows" => Input::Windows(sample(&words[1..])),
             "edge" => Input::Edge(edge::Call {
@@ -121,7 +124,7 @@ impl Twin {
         Twin { line, input, right }
     }
 
-    /// Ours and the original's.
+    /// Ours and the original's or the reading's.
     fn answers(&self) -> Vec<Vec<u32>> {
         let both = |ours: Vec<u32>, theirs: Vec<u32>| vec![ours, theirs];
         let noise = |[w, h]: [usize; 2], pixels: &[u8], fields: &[usize]| {
@@ -137,6 +140,7 @@ impl Twin {
         match &self.input {
             Input::Image(image) => noise(image.sides, &image.pixels(), &[0, 1, 8]),
             Input::Milli(image) => noise(image.sides, &image.pixels(), &[1, 2]),
+            Input::Thousandths(pattern) => both(vec![milli::vuzgari_compare_milli(f32::from_bits(*pattern))], vec![milli::nearest(*pattern)]),
             Input::Cells(sides, pixels) => noise(*sides, pixels, &[0, 1, 8]),
             Input::Windows(sample) => {
                 let [ours, theirs] = [sample.our_sigma(), sample.their_sigma()].map(|(n, sigma, rounds)| vec![n, sigma.to_bits(), rounds as u32]);
@@ -226,10 +230,11 @@ fn compare(run: &mut Run) {
     }
 }
 
-/// Images, windows and edges, as the program `stored_twins` reads them; the others are in the lists of `gradients` and `model`.
+/// Images, patterns, windows and edges, as the program `stored_twins` reads them; the others are in the lists of `gradients` and
+/// `model`.
 fn store() -> Stored {
     let mut lines = Lines::new(4);
-    for kind in ["image", "milli", "windows", "edge"] {
+    for kind in ["image", "milli", "thousandths", "windows", "edge"] {
         for twin in twins(kind) {
             match &twin.input {
                 Input::Image(image) | Input::Milli(image) => {
@@ -242,6 +247,7 @@ fn store() -> Stored {
                     let bytes: String = words.iter().flat_map(|word| word.to_le_bytes()).map(|byte| format!("{byte:02x}")).collect();
                     lines.call('n', &[], &format!("noise {number} {bytes}"));
                 }
+                Input::Thousandths(pattern) => lines.call('m', &[(*pattern).into()], &format!("milli {}", milli::nearest(*pattern))),
                 Input::Windows(sample) => {
                     lines.put('b', &[]);
                     for (band, rounds::Windows { gate, op }) in sample.bands().iter().enumerate() {
