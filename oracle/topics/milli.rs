@@ -57,10 +57,10 @@ fn compare(run: &mut Run) {
     kind(run, "whole thousandths", run.once((0..=LARGEST).flat_map(|n| beside(f64::from(n) / 1_000.0))));
     let mut random = run.random("seeded");
     kind(run, "seeded", repeat_with(|| random.f32().to_bits()).take(run.size(GATE) as usize));
-    let mut random = run.random("seeded, between the ends");
+    let mut random = run.random("seeded between the ends");
     let [first, past] = [0.000_5_f32, 4_294_967.5].map(f32::to_bits);
     let between = repeat_with(|| first + random.below((past - first).into()) as u32);
-    kind(run, "seeded, between the ends", between.take(run.size(GATE) as usize));
+    kind(run, "seeded between the ends", between.take(run.size(GATE) as usize));
 }
 
 fn kind(run: &mut Run, what: &str, patterns: impl Iterator<Item = u32>) {
