@@ -2,7 +2,7 @@
 use mathlib.Core.Path.{_≡_, refl, sym, ap, _∙_, subst}
 use mathlib.Core.Bool.{Bool, true, false, cond, _||_}
 use mathlib.Core.List.{List}
-use Prim.Native.Nat.{ℕ, _+_, _-_, _*_, _≤_, _<_}
+use Prim.Native.Nat.{ℕ, _+_, _*_, _≤_, _<_}
 use native.Mathlib.Nat.{lt-of-le-of-lt}
 use borrow.Author.Tests.{eqb-false}
 use lib.Dec.{eqb, lit<}
@@ -15,7 +15,7 @@ use Rattle.grid.specs.Needed.{firstW, secondW}
 use Rattle.measure.specs.Figures.{figuresOf}
 use Rattle.milli.specs.Thousandths.{milliOf}
 use Rattle.milli.specs.Nearest.{NearestTo}
-use Rattle.milli.proofs.Nearest.{nearest-milli}
+use Rattle.milli.proofs.Nearest.{is-nearest}
 use Rattle.pass.specs.Pass.{passOf}
 use Rattle.pass.proofs.Reasons.{pass-zero}
 use Rattle.answer.specs.declared.Answer.{Answer}
@@ -23,6 +23,7 @@ use Rattle.noise.specs.Answers.{endingIn, decided}
 use Rattle.noise.specs.Refusals.{refusalOf}
 use Rattle.noise.specs.Call.{refused, measured, noiseOf}
 use Rattle.bounds.specs.Sigma.{sigmaMost}
+use Rattle.bounds.specs.Milli.{MilliIsNearest}
 use Rattle.bounds.proofs.Answers.{sigma-is-number}
 
 -- milli is that of sigma
@@ -54,9 +55,9 @@ of-sigma img w h short =
     let number = refusalOf (length img) w h short in
     cond-both OfSigma (eqb number 0) (measured img w h) (refused number) (of-measured img w h) of-zero
 
-pub milli-is-nearest : (img : List ℕ) → ((i : ℕ) → getD img i 0 ≤ 255) → (w h : ℕ) (short : Bool) → NearestTo (noiseOf img w h short .sigma) (noiseOf img w h short .milli)
+pub milli-is-nearest : (img : List ℕ) → ((i : ℕ) → getD img i 0 ≤ 255) → (w h : ℕ) (short : Bool) → MilliIsNearest (noiseOf img w h short)
 milli-is-nearest img bytes w h short =
     let n = sigma-is-number img bytes w h short in
     let e = of-sigma img w h short in
     let x = noiseOf img w h short .sigma in
-    subst (NearestTo x) (sym e) (nearest-milli x (n .range .finite) (n .range .plus) (lt-of-le-of-lt (subst (λ (k : ℕ). k ≤ 1000 * sigmaMost) e (n .milli)) (lit< tt)))
+    subst (NearestTo x) (sym e) (is-nearest x (n .range .finite) (n .range .plus) (lt-of-le-of-lt (subst (λ (k : ℕ). k ≤ 1000 * sigmaMost) e (n .milli)) (lit< tt)))

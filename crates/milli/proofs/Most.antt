@@ -9,7 +9,7 @@ use Rattle.laws.proofs.Choice.{cond-both}
 use Rattle.ieee.proofs.Naturals.{le-or-lt}
 use Rattle.ieee.proofs.Bounded.{Bounded}
 use Rattle.milli.specs.Thousandths.{thousandths, milliOf}
-use Rattle.milli.proofs.Nearest.{half-above, next}
+use Rattle.milli.proofs.Nearest.{half-above, next-multiple}
 
 at-most : (a c n : ℕ) → 0 < c → a ≤ n * c → thousandths a c ≤ 1000 * n
 at-most a c n C h = go (le-or-lt (thousandths a c) (1000 * n))
@@ -19,7 +19,7 @@ at-most a c n C h = go (le-or-lt (thousandths a c) (1000 * n))
 
     go : (thousandths a c ≤ 1000 * n) ⊎ (1000 * n < thousandths a c) → thousandths a c ≤ 1000 * n
     go (inl l) = l
-    go (inr l) = absurd (over (thousandths a c * c) (half-above a c C) (next (1000 * n) (thousandths a c) c l))
+    go (inr l) = absurd (over (thousandths a c * c) (half-above a c C) (next-multiple (1000 * n) (thousandths a c) c l))
 
 pub milli-most : (x : Float) (n : ℕ) → Bounded x false n → milliOf x ≤ 1000 * n
 unfolding milliOf

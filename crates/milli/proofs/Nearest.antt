@@ -11,19 +11,19 @@ use lib.Ieee.Fits.{down-pos}
 use Rattle.ieee.specs.Order.{finite, negative}
 use Rattle.ieee.proofs.Naturals.{le-or-lt}
 use Rattle.milli.specs.Thousandths.{thousandths, milliOf}
-use Rattle.milli.specs.Nearest.{distance, Nearest, NearestTo}
+use Rattle.milli.specs.Nearest.{apart, distance, Nearest, NearestTo}
 
 -- ---- in units of c: v is 1,000 a, and t and k are whole numbers times c
 
 -- a k that is lower by c at least is no nearer than t, one that is higher by c at least is farther
-no-nearer-below : (v t k c : ℕ) → t * 2 ≤ v * 2 + c → k + c ≤ t → (v - t) + (t - v) ≤ (v - k) + (k - v)
+no-nearer-below : (v t k c : ℕ) → t * 2 ≤ v * 2 + c → k + c ≤ t → apart v t ≤ apart v k
 no-nearer-below v t k c h l = omega arith
 
-farther-above : (v t k c : ℕ) → 0 < c → v * 2 < t * 2 + c → t + c ≤ k → (v - t) + (t - v) < (v - k) + (k - v)
+farther-above : (v t k c : ℕ) → 0 < c → v * 2 < t * 2 + c → t + c ≤ k → apart v t < apart v k
 farther-above v t k c C h l = omega arith
 
-pub next : (n k c : ℕ) → n < k → n * c + c ≤ k * c
-next n k c h = le-trans (le-of-eq (one n c)) (mul-le-mul-right {m = n + 1} {n = k} c (omega arith))
+pub next-multiple : (n k c : ℕ) → n < k → n * c + c ≤ k * c
+next-multiple n k c h = le-trans (le-of-eq (one n c)) (mul-le-mul-right {m = n + 1} {n = k} c (omega arith))
   where
     one : (n c : ℕ) → n * c + c ≡ (n + 1) * c
     one n c = omega arith
@@ -43,14 +43,14 @@ module _ (a c : ℕ) (C : 0 < c) where
       one-more n = omega arith
 
   farther : (k : ℕ) → t < k → distance a c t < distance a c k
-  farther k h = farther-above (a * 1000) (t * c) (k * c) c C half-below (next t k c h)
+  farther k h = farther-above (a * 1000) (t * c) (k * c) c C half-below (next-multiple t k c h)
 
-  pub nearest-is : Nearest a c t
-  nearest-is = record { no-nearer = λ k. near k (le-or-lt k t); larger = λ k e. most k e (le-or-lt k t) }
+  pub thousandths-nearest : Nearest a c t
+  thousandths-nearest = record { no-nearer = λ k. near k (le-or-lt k t); larger-of-two = λ k e. most k e (le-or-lt k t) }
     where
       below : (k : ℕ) → (k ≡ t) ⊎ (k < t) → distance a c t ≤ distance a c k
       below k (inl e) = le-of-eq (ap (distance a c) (sym e))
-      below k (inr h) = no-nearer-below (a * 1000) (t * c) (k * c) c half-above (next k t c h)
+      below k (inr h) = no-nearer-below (a * 1000) (t * c) (k * c) c half-above (next-multiple k t c h)
 
       near : (k : ℕ) → (k ≤ t) ⊎ (t < k) → distance a c t ≤ distance a c k
       near k (inl h) = below k (eq-or-lt-of-le h)
@@ -64,27 +64,27 @@ module _ (a c : ℕ) (C : 0 < c) where
 pub one-nearest : (a c n k : ℕ) → Nearest a c n → Nearest a c k → n ≡ k
 one-nearest a c n k p q =
     let e = le-antisymm (p .no-nearer k) (q .no-nearer n) in
-    le-antisymm (q .larger n e) (p .larger k (sym e))
+    le-antisymm (q .larger-of-two n e) (p .larger-of-two k (sym e))
 
 -- ---- a float's
 
 -- whatever is nearest to 1,000 times a float is its milli, as far as 32 bits hold it
-pub milli-nearest : (x : Float) (n : ℕ) → NearestTo x n → milliOf x ≡ min n (2 ^ 32 - 1)
+pub only-nearest : (x : Float) (n : ℕ) → NearestTo x n → milliOf x ≡ min n (2 ^ 32 - 1)
 unfolding milliOf
-milli-nearest nan n p = absurd p
-milli-nearest (inf s) n p = absurd p
-milli-nearest (fin s m e) n p =
+only-nearest nan n p = absurd p
+only-nearest (inf s) n p = absurd p
+only-nearest (fin s m e) n p =
     ap (λ (b : Bool). cond b 0 (min (thousandths (m * up e) (down e)) (2 ^ 32 - 1))) (p .0)
-    ∙ ap (λ (k : ℕ). min k (2 ^ 32 - 1)) (one-nearest (m * up e) (down e) (thousandths (m * up e) (down e)) n (nearest-is (m * up e) (down e) (down-pos e)) (p .1))
+    ∙ ap (λ (k : ℕ). min k (2 ^ 32 - 1)) (one-nearest (m * up e) (down e) (thousandths (m * up e) (down e)) n (thousandths-nearest (m * up e) (down e) (down-pos e)) (p .1))
 
 -- and its milli is the nearest, where it is below the largest
-pub nearest-milli : (x : Float) → T (finite x) → negative x ≡ false → milliOf x < 2 ^ 32 - 1 → NearestTo x (milliOf x)
+pub is-nearest : (x : Float) → T (finite x) → negative x ≡ false → milliOf x < 2 ^ 32 - 1 → NearestTo x (milliOf x)
 unfolding milliOf finite negative
-nearest-milli nan f p h = absurd f
-nearest-milli (inf s) f p h = absurd f
-nearest-milli (fin true m e) f p h = absurd (true≢false p)
-nearest-milli (fin false m e) f p h =
-    (refl, subst (Nearest (m * up e) (down e)) (held (thousandths (m * up e) (down e)) h) (nearest-is (m * up e) (down e) (down-pos e)))
+is-nearest nan f p h = absurd f
+is-nearest (inf s) f p h = absurd f
+is-nearest (fin true m e) f p h = absurd (true≢false p)
+is-nearest (fin false m e) f p h =
+    (refl, subst (Nearest (m * up e) (down e)) (held (thousandths (m * up e) (down e)) h) (thousandths-nearest (m * up e) (down e) (down-pos e)))
   where
     held : (t : ℕ) → min t (2 ^ 32 - 1) < 2 ^ 32 - 1 → t ≡ min t (2 ^ 32 - 1)
     held t l = omega arith

@@ -24,9 +24,9 @@ use Rattle.milli.specs.Thousandths.{thousandths, milliOf}
 thousandths-same : (a b c d : ℕ) → 0 < b → 0 < d → a * d ≡ c * b → thousandths a b ≡ thousandths c d
 thousandths-same a b c d B D e = div-same (a * 2000 + b) (b * 2) (c * 2000 + d) (d * 2) (omega arith) (omega arith) (omega arith)
 
--- whole halves of them, and an odd one up
-pub halves-up : (a c : ℕ) → 0 < c → (a * 2000 / c + 1) / 2 ≡ thousandths a c
-halves-up a c C = ap (λ (h : ℕ). h / 2) (sym (add-div-right (a * 2000) C)) ∙ div-div-eq-div-mul (a * 2000 + c) c 2
+-- whole halves of them, of which an odd one goes up
+pub odd-up : (a c : ℕ) → 0 < c → (a * 2000 / c + 1) / 2 ≡ thousandths a c
+odd-up a c C = ap (λ (h : ℕ). h / 2) (sym (add-div-right (a * 2000) C)) ∙ div-div-eq-div-mul (a * 2000 + c) c 2
 
 -- none below half a thousandth
 thousandths-none : (a c : ℕ) → a * 2000 < c → thousandths a c ≡ 0

@@ -12,6 +12,12 @@ pub halves :
 unfolding milliOf ofBits
 halves = (refl, refl, refl)
 
+-- the two largest f32 with a half, 1,048,575.8125 and 1,048,575.9375
+pub largest-halves :
+    (milliOf (ofBits binary32 0x497f_fffd) ≡ 1048575813) × (milliOf (ofBits binary32 0x497f_ffff) ≡ 1048575938)
+unfolding milliOf ofBits
+largest-halves = (refl, refl)
+
 -- 1.9996, which cut down would have 1,999
 pub at-19996 : milliOf (ofBits binary32 0x3fff_f2e5) ≡ 2000
 unfolding milliOf ofBits
@@ -27,7 +33,7 @@ pub at-19985 : (milliOf (ofBits binary32 0x3fff_ced9) ≡ 1998) × (milliOf (ofB
 unfolding milliOf ofBits
 at-19985 = (refl, refl)
 
--- the whole number nearest to a float
+-- the whole number nearest to a float without its sign, halves going up; 0 of one that has no value
 toWhole : Float → ℕ
 toWhole nan = 0
 toWhole (inf s) = 0

@@ -4,7 +4,7 @@ ghost use Rattle.milli.specs.Thousandths.{milliOf};
 
 // The whole number nearest to 1,000 times x, taken exactly, halves going up; 0 for a NaN and below
 // zero, and the largest u32 where it is more. x is digits / 2^(150 - field), and below field 110
-// neither x nor digits / 2^40 has half a thousandth.
+// neither x nor digits / 2^40 has half a thousandth. An odd half thousandth goes up.
 pub fn milli(x: f32) -> u32
     ensures { λ r. ⌜ r ≡ milliOf x ⌝ }
 {
@@ -21,9 +21,8 @@ pub fn milli(x: f32) -> u32
     }
     let digits = laws::wide(0x80_0000 + b % 0x80_0000);
     let d = if field >= 110 { 150 - field } else { 40 };
-    // whole halves of a thousandth, of which an odd one goes up
-    let halves = digits * 2000 >> d;
-    let q = (halves + 1) / 2;
+    let half_thousandths = digits * 2000 >> d;
+    let q = (half_thousandths + 1) / 2;
     if q > 0xffff_ffff {
         return 0xffff_ffff;
     }

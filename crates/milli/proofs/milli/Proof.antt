@@ -1,10 +1,10 @@
--- `milli` meets its contract: the digits' halves of thousandths, an odd one up, are the thousandths of the value
+-- `milli` meets its contract: the digits' half thousandths, an odd one up, are the thousandths of the value
 -- (proofs/Patterns.antt).
 use borrow.Author.Needs.{needs}
 use mathlib.Core.Path.{_≡_, sym, ap, _∙_, subst}
 use mathlib.Core.Logic.{⊎-elim, inl, inr}
 use mathlib.Core.Bool.{not}
-use Prim.Native.Nat.{ℕ, _+_, _-_, _*_, _/_, _%_, _^_, _<_}
+use Prim.Native.Nat.{ℕ, _+_, _*_, _/_, _%_, _^_, _<_}
 use native.Mathlib.Nat.{div-le-self}
 use native.Mathlib.Omega.{arith}
 use mir.Syntax.{w64}
@@ -14,7 +14,7 @@ use lib.Pow.{pow-pos}
 use lib.Ieee.{Float, binary32, fits, isNan, toBits}
 use Rattle.ieee.proofs.Tests.{no-nan}
 use Rattle.milli.specs.Thousandths.{thousandths}
-use Rattle.milli.proofs.Patterns.{milli-nan, milli-minus, milli-large, milli-over, milli-is, Part, part-in, halves-up}
+use Rattle.milli.proofs.Patterns.{milli-nan, milli-minus, milli-large, milli-over, milli-is, Part, part-in, odd-up}
 use Rattle.milli.proofs.milli.Statement.{statement}
 use Rattle.milli.proofs.milli.Tie as tie
 
@@ -36,7 +36,7 @@ q j = (j .before .wide .result * 2000 / 2 ^ (j .if4 .d) + 1) / 2
 
 -- of the digits that are multiplied
 is : (j : tie.Joined4) → q j ≡ thousandths (2 ^ 23 + toBits binary32 (x (j .before .before .before .before)) % 2 ^ 23) (2 ^ (j .if4 .d))
-is j = ap (λ (n : ℕ). (n * 2000 / 2 ^ (j .if4 .d) + 1) / 2) (j .before .wide .ensures) ∙ halves-up _ (2 ^ (j .if4 .d)) (pow-pos (j .if4 .d))
+is j = ap (λ (n : ℕ). (n * 2000 / 2 ^ (j .if4 .d) + 1) / 2) (j .before .wide .ensures) ∙ odd-up _ (2 ^ (j .if4 .d)) (pow-pos (j .if4 .d))
 
 one-more : (n p : ℕ) → n < 2 ^ 63 → Fits w64 (n / p + 1)
 one-more n p h = omega (arith, div-le-self n p)
@@ -62,11 +62,11 @@ wide-requires c κs = search needs
 sub-d : tie.Need-sub-d
 sub-d c = search needs
 
-mul-halves : tie.Need-mul-halves
-mul-halves c = search needs
+mul-half-thousandths : tie.Need-mul-half-thousandths
+mul-half-thousandths c = search needs
 
-shr-halves : tie.Need-shr-halves
-shr-halves c = part-in _ _ (part (c .before))
+shr-half-thousandths : tie.Need-shr-half-thousandths
+shr-half-thousandths c = part-in _ _ (part (c .before))
 
 add-q : tie.Need-add-q
 add-q c = one-more _ _ (omega (arith, c .before .before .wide .ensures))
@@ -97,8 +97,8 @@ milli-spec =
     add-wide
     wide-requires
     sub-d
-    mul-halves
-    shr-halves
+    mul-half-thousandths
+    shr-half-thousandths
     add-q
     returns-4
     cast-result
