@@ -81,7 +81,7 @@ uint32_t vuzgari_noise(const uint8_t *pixels, size_t pixels_len, size_t w, size_
                        uint8_t *answer, size_t answer_len);
 
 /* The noise call's answer. Counts are those of the last pass, rounds those of all. Sigma and milli are zero unless the
-   number is VUZGARI_GIVEN. Milli may be up to half a thousandth off: who compares exactly takes sigma. */
+   number is VUZGARI_GIVEN. Milli may be up to half a thousandth of a level off: who compares exactly takes sigma. */
 struct vuzgari_answer {
     uint32_t number;
     float sigma;       /* the noise, in levels of 0 to 255 */

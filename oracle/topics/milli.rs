@@ -12,8 +12,8 @@ unsafe extern "C" {
 
 /// Inputs of each seeded kind in the gate.
 const GATE: u64 = 4_000_000;
-/// Milli of the largest sigma.
-const LARGEST: u32 = 409_000;
+/// The most that milli can be in an answer, whose sigma is at most 409.
+const MOST: u32 = 409_000;
 
 /// The whole number nearest to 1,000 times the f32 of a pattern, of two equally near the larger; 0 for a NaN and wherever there is a
 /// minus sign, the largest u32 where there is more.
@@ -53,8 +53,8 @@ fn compare(run: &mut Run) {
     kind(run, "special values", run.once(specials32().into_iter().map(f32::to_bits)));
     kind(run, "ends", run.once(ends()));
     kind(run, "odd sixteenths", run.once(odd_sixteenths()));
-    kind(run, "half thousandths", run.once((0..=LARGEST).flat_map(|n| beside(f64::from(2 * n + 1) / 2_000.0))));
-    kind(run, "whole thousandths", run.once((0..=LARGEST).flat_map(|n| beside(f64::from(n) / 1_000.0))));
+    kind(run, "half thousandths", run.once((0..=MOST).flat_map(|n| beside(f64::from(2 * n + 1) / 2_000.0))));
+    kind(run, "whole thousandths", run.once((0..=MOST).flat_map(|n| beside(f64::from(n) / 1_000.0))));
     let mut random = run.random("seeded");
     kind(run, "seeded", repeat_with(|| random.f32().to_bits()).take(run.size(GATE) as usize));
     let mut random = run.random("seeded between the ends");
@@ -90,8 +90,8 @@ fn odd_sixteenths() -> impl Iterator<Item = u32> {
     odd(0, BESIDE).flat_map(beside).chain(odd(BESIDE, 1 << 24).map(|x| (x as f32).to_bits()))
 }
 
-/// With either sign, all patterns about zero, the largest subnormal, 2^-17, the first thousandth, the most that 32 bits hold, 2^23
-/// and infinity.
+/// With either sign, 8,192 patterns about each of zero, the largest subnormal, 2^-17, half a thousandth, the most that 32 bits
+/// hold, 2^23 and infinity.
 fn ends() -> impl Iterator<Item = u32> {
     const SPAN: u32 = 1 << 12;
     let least = f32::MIN_POSITIVE;

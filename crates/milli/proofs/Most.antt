@@ -11,8 +11,8 @@ use Rattle.ieee.proofs.Bounded.{Bounded}
 use Rattle.milli.specs.Thousandths.{thousandths, milliOf}
 use Rattle.milli.proofs.Nearest.{half-above, next-multiple}
 
-at-most : (a c n : ℕ) → 0 < c → a ≤ n * c → thousandths a c ≤ 1000 * n
-at-most a c n C h = go (le-or-lt (thousandths a c) (1000 * n))
+thousandths-at-most : (a c n : ℕ) → 0 < c → a ≤ n * c → thousandths a c ≤ 1000 * n
+thousandths-at-most a c n C h = go (le-or-lt (thousandths a c) (1000 * n))
   where
     over : (s : ℕ) → s * 2 ≤ a * 1000 * 2 + c → 1000 * n * c + c ≤ s → ⊥
     over s p q = omega arith
@@ -27,7 +27,7 @@ milli-most nan n p = absurd p
 milli-most (inf t) n p = absurd p
 milli-most (fin t m e) n p =
     cond-both (λ (k : ℕ). k ≤ 1000 * n) t 0 (min (thousandths (m * up e) (down e)) (2 ^ 32 - 1)) (omega arith)
-    (low (thousandths (m * up e) (down e)) (at-most (m * up e) (down e) n (down-pos e) (p .1)))
+    (low (thousandths (m * up e) (down e)) (thousandths-at-most (m * up e) (down e) n (down-pos e) (p .1)))
   where
     low : (k : ℕ) → k ≤ 1000 * n → min k (2 ^ 32 - 1) ≤ 1000 * n
     low k h = omega arith

@@ -13,14 +13,14 @@ use Rattle.ieee.proofs.Naturals.{le-or-lt}
 use Rattle.milli.specs.Thousandths.{thousandths, milliOf}
 use Rattle.milli.specs.Nearest.{apart, distance, Nearest, NearestTo}
 
--- ---- in units of c: v is 1,000 a, and t and k are whole numbers times c
+-- ---- in units of c: v is 1,000 a, and m and n are whole numbers times c
 
--- a k that is lower by c at least is no nearer than t, one that is higher by c at least is farther
-no-nearer-below : (v t k c : ℕ) → t * 2 ≤ v * 2 + c → k + c ≤ t → apart v t ≤ apart v k
-no-nearer-below v t k c h l = omega arith
+-- an n that is lower by c at least is no nearer than m, one that is higher by c at least is farther
+no-nearer-below : (v m n c : ℕ) → m * 2 ≤ v * 2 + c → n + c ≤ m → apart v m ≤ apart v n
+no-nearer-below v m n c h l = omega arith
 
-farther-above : (v t k c : ℕ) → 0 < c → v * 2 < t * 2 + c → t + c ≤ k → apart v t < apart v k
-farther-above v t k c C h l = omega arith
+farther-above : (v m n c : ℕ) → 0 < c → v * 2 < m * 2 + c → m + c ≤ n → apart v m < apart v n
+farther-above v m n c C h l = omega arith
 
 pub next-multiple : (n k c : ℕ) → n < k → n * c + c ≤ k * c
 next-multiple n k c h = le-trans (le-of-eq (one n c)) (mul-le-mul-right {m = n + 1} {n = k} c (omega arith))
@@ -84,7 +84,7 @@ is-nearest nan f p h = absurd f
 is-nearest (inf s) f p h = absurd f
 is-nearest (fin true m e) f p h = absurd (true≢false p)
 is-nearest (fin false m e) f p h =
-    (refl, subst (Nearest (m * up e) (down e)) (held (thousandths (m * up e) (down e)) h) (thousandths-nearest (m * up e) (down e) (down-pos e)))
+    (refl, subst (Nearest (m * up e) (down e)) (below-cap (thousandths (m * up e) (down e)) h) (thousandths-nearest (m * up e) (down e) (down-pos e)))
   where
-    held : (t : ℕ) → min t (2 ^ 32 - 1) < 2 ^ 32 - 1 → t ≡ min t (2 ^ 32 - 1)
-    held t l = omega arith
+    below-cap : (t : ℕ) → min t (2 ^ 32 - 1) < 2 ^ 32 - 1 → t ≡ min t (2 ^ 32 - 1)
+    below-cap t l = omega arith

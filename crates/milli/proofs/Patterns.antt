@@ -24,7 +24,7 @@ use Rattle.milli.specs.Thousandths.{thousandths, milliOf}
 thousandths-same : (a b c d : ℕ) → 0 < b → 0 < d → a * d ≡ c * b → thousandths a b ≡ thousandths c d
 thousandths-same a b c d B D e = div-same (a * 2000 + b) (b * 2) (c * 2000 + d) (d * 2) (omega arith) (omega arith) (omega arith)
 
--- whole halves of them, of which an odd one goes up
+-- half thousandths, cut down, of which an odd number goes up
 pub odd-up : (a c : ℕ) → 0 < c → (a * 2000 / c + 1) / 2 ≡ thousandths a c
 odd-up a c C = ap (λ (h : ℕ). h / 2) (sym (add-div-right (a * 2000) C)) ∙ div-div-eq-div-mul (a * 2000 + c) c 2
 
@@ -37,13 +37,13 @@ thousandths-none a c h = div-eq-of-lt (less a c h)
 
 -- more than 32 bits hold, from 2 ^ 23 on
 thousandths-most : (a c : ℕ) → 0 < c → 2 ^ 23 * c ≤ a → min (thousandths a c) (2 ^ 32 - 1) ≡ 2 ^ 32 - 1
-thousandths-most a c C h = least (thousandths a c) (le-div-iff-mul-le (omega arith) .1 (much a c h))
+thousandths-most a c C h = capped (thousandths a c) (le-div-iff-mul-le (omega arith) .1 (much a c h))
   where
     much : (a c : ℕ) → 2 ^ 23 * c ≤ a → (2 ^ 32 - 1) * (c * 2) ≤ a * 2000 + c
     much a c h = omega arith
 
-    least : (t : ℕ) → 2 ^ 32 - 1 ≤ t → min t (2 ^ 32 - 1) ≡ 2 ^ 32 - 1
-    least t h = omega arith
+    capped : (t : ℕ) → 2 ^ 32 - 1 ≤ t → min t (2 ^ 32 - 1) ≡ 2 ^ 32 - 1
+    capped t h = omega arith
 
 -- ---- a float's
 

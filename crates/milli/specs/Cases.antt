@@ -52,7 +52,7 @@ pub least : (milliOf (ofBits binary32 0x3a03_126e) ≡ 0) × (milliOf (ofBits bi
 unfolding milliOf ofBits
 least = (refl, refl)
 
--- the largest sigma of an image
+-- the largest sigma that is known of an image
 pub largest-sigma : milliOf (ofBits binary32 0x43cc_1bfd) ≡ 408219
 unfolding milliOf ofBits
 largest-sigma = refl

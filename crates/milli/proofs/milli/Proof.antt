@@ -35,11 +35,11 @@ abbrev q : tie.Joined4 → ℕ
 q j = (j .before .wide .result * 2000 / 2 ^ (j .if4 .d) + 1) / 2
 
 -- of the digits that are multiplied
-is : (j : tie.Joined4) → q j ≡ thousandths (2 ^ 23 + toBits binary32 (x (j .before .before .before .before)) % 2 ^ 23) (2 ^ (j .if4 .d))
-is j = ap (λ (n : ℕ). (n * 2000 / 2 ^ (j .if4 .d) + 1) / 2) (j .before .wide .ensures) ∙ odd-up _ (2 ^ (j .if4 .d)) (pow-pos (j .if4 .d))
+q-is : (j : tie.Joined4) → q j ≡ thousandths (2 ^ 23 + toBits binary32 (x (j .before .before .before .before)) % 2 ^ 23) (2 ^ (j .if4 .d))
+q-is j = ap (λ (n : ℕ). (n * 2000 / 2 ^ (j .if4 .d) + 1) / 2) (j .before .wide .ensures) ∙ odd-up _ (2 ^ (j .if4 .d)) (pow-pos (j .if4 .d))
 
-one-more : (n p : ℕ) → n < 2 ^ 63 → Fits w64 (n / p + 1)
-one-more n p h = omega (arith, div-le-self n p)
+one-more-fits : (n p : ℕ) → n < 2 ^ 63 → Fits w64 (n / p + 1)
+one-more-fits n p h = omega (arith, div-le-self n p)
 
 returns : tie.Need-returns
 returns c = milli-nan (c .before .args .x) (c .if1 .taken)
@@ -69,13 +69,13 @@ shr-half-thousandths : tie.Need-shr-half-thousandths
 shr-half-thousandths c = part-in _ _ (part (c .before))
 
 add-q : tie.Need-add-q
-add-q c = one-more _ _ (omega (arith, c .before .before .wide .ensures))
+add-q c = one-more-fits _ _ (omega (arith, c .before .before .wide .ensures))
 
 returns-4 : tie.Need-returns-4
 returns-4 c =
     let j = c .before .before in
     let s = j .before .before .before .before in
-    milli-over (x s) (held s) (plain s) (j .before .before .before .if2 .left) (j .if4 .d) (q j) (j .before .before .if3 .left) (part j) (is j) (c .if5 .taken)
+    milli-over (x s) (held s) (plain s) (j .before .before .before .if2 .left) (j .if4 .d) (q j) (j .before .before .if3 .left) (part j) (q-is j) (c .if5 .taken)
 
 cast-result : tie.Need-cast-result
 cast-result c = search needs
@@ -84,7 +84,7 @@ returns-5 : tie.Need-returns-5
 returns-5 c =
     let j = c .before .before in
     let s = j .before .before .before .before in
-    milli-is (x s) (held s) (plain s) (j .before .before .before .if2 .left) (j .if4 .d) (q j) (j .before .before .if3 .left) (part j) (is j) (c .if5 .left)
+    milli-is (x s) (held s) (plain s) (j .before .before .before .if2 .left) (j .if4 .d) (q j) (j .before .before .if3 .left) (part j) (q-is j) (c .if5 .left)
 
 pub milli-spec : {M : Type 1} → statement M
 milli-spec =
