@@ -1,4 +1,6 @@
 // What the noise call answers, as numbers and as the bytes that C reads.
+#![tactic(auto)]
+
 ghost use Rattle.std.specs.Prelude.{◌≡◌, ◌++◌, ◌≤◌, length, drop};
 ghost use Rattle.answer.specs.Fields.{words_of, bytes_of_words, answer_bytes};
 

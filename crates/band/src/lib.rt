@@ -1,4 +1,6 @@
 // The windows of a pass counted by band.
+#![tactic(auto)]
+
 ghost use Rattle.std.specs.Prelude.{◌≡◌, ◌≤◌, length};
 ghost use Rattle.measure.specs.Columns.{figures_in};
 ghost use Rattle.band.specs.Bands.{band_of, sample_of};
@@ -7,7 +9,7 @@ ghost use Rattle.band.specs.Bands.{band_of, sample_of};
 pub const BANDS: usize = 4;
 
 // How many windows each band has, and how many are near the rails and dropped.
-#[derive(Drop)]
+#[derive(Clone, Copy)]
 pub struct Sample {
     pub b0: usize,
     pub b1: usize,

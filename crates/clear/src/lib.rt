@@ -1,4 +1,6 @@
 // Clearing the front of lent work memory. Each loop is one that compiles to a memset.
+#![tactic(auto)]
+
 ghost use Rattle.std.specs.Prelude.{◌≡◌, ◌≤◌, length, pos};
 ghost use Rattle.ieee.specs.Numbers.{plus_zero};
 ghost use Rattle.clear.specs.Cleared.{cleared};

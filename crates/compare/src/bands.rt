@@ -12,28 +12,20 @@ ghost use Rattle.compare.specs.Bands.{BandsInOrder, starts};
 use joining::Sigma;
 use rounds::Found;
 
-#[unsafe(no_mangle)]
-pub extern "C" fn vuzgari_compare_quantile(values: &[f32]) -> f32
+pub fn vuzgari_compare_quantile(values: &[f32]) -> f32
     ensures { result ≡ quiet values.now }
 {
     quantile::quantile(values)
 }
 
-#[unsafe(no_mangle)]
-pub extern "C" fn vuzgari_compare_mean_quiet(op: &[f32], gate: &[f32], quiet: f32) -> f64
+pub fn vuzgari_compare_mean_quiet(op: &[f32], gate: &[f32], quiet: f32) -> f64
     requires { length gate.now ≡ length op.now }
     ensures { result ≡ mean_quiet op.now gate.now quiet }
 {
     sums::mean_quiet(op, gate, quiet)
 }
 
-#[unsafe(no_mangle)]
-pub extern "C" fn vuzgari_compare_admitted_count(
-    gate: &[f32],
-    op: &[f32],
-    gate_var: f64,
-    op_var: f64,
-) -> usize
+pub fn vuzgari_compare_admitted_count(gate: &[f32], op: &[f32], gate_var: f64, op_var: f64) -> usize
     requires { length gate.now ≡ length op.now }
     ensures { result ≡ (admitted_at gate.now op.now gate_var op_var).n }
 {
@@ -41,13 +33,7 @@ pub extern "C" fn vuzgari_compare_admitted_count(
     k.n
 }
 
-#[unsafe(no_mangle)]
-pub extern "C" fn vuzgari_compare_admitted_sum(
-    gate: &[f32],
-    op: &[f32],
-    gate_var: f64,
-    op_var: f64,
-) -> f64
+pub fn vuzgari_compare_admitted_sum(gate: &[f32], op: &[f32], gate_var: f64, op_var: f64) -> f64
     requires { length gate.now ≡ length op.now }
     ensures { result ≡ (admitted_at gate.now op.now gate_var op_var).sum }
 {
@@ -56,8 +42,7 @@ pub extern "C" fn vuzgari_compare_admitted_sum(
 }
 
 // The windows that a band's variance rests on, 0 where it has none.
-#[unsafe(no_mangle)]
-pub extern "C" fn vuzgari_compare_variance_count(gate: &[f32], op: &[f32], image_var: f64) -> usize
+pub fn vuzgari_compare_variance_count(gate: &[f32], op: &[f32], image_var: f64) -> usize
     requires { length gate.now ≡ length op.now }
     ensures { result ≡ windows_of (band_variance gate.now op.now image_var).found }
 {
@@ -70,8 +55,7 @@ pub extern "C" fn vuzgari_compare_variance_count(gate: &[f32], op: &[f32], image
 }
 
 // The variance, and no number where there is none.
-#[unsafe(no_mangle)]
-pub extern "C" fn vuzgari_compare_variance(gate: &[f32], op: &[f32], image_var: f64) -> f64
+pub fn vuzgari_compare_variance(gate: &[f32], op: &[f32], image_var: f64) -> f64
     requires { length gate.now ≡ length op.now }
     ensures { result ≡ at (variance_of (band_variance gate.now op.now image_var).found) 0 }
 {
@@ -83,8 +67,7 @@ pub extern "C" fn vuzgari_compare_variance(gate: &[f32], op: &[f32], image_var: 
     }
 }
 
-#[unsafe(no_mangle)]
-pub extern "C" fn vuzgari_compare_variance_rounds(gate: &[f32], op: &[f32], image_var: f64) -> usize
+pub fn vuzgari_compare_variance_rounds(gate: &[f32], op: &[f32], image_var: f64) -> usize
     requires { length gate.now ≡ length op.now }
     ensures { result ≡ (band_variance gate.now op.now image_var).rounds }
 {
@@ -92,8 +75,7 @@ pub extern "C" fn vuzgari_compare_variance_rounds(gate: &[f32], op: &[f32], imag
     v.rounds
 }
 
-#[unsafe(no_mangle)]
-pub extern "C" fn vuzgari_compare_image_variance(
+pub fn vuzgari_compare_image_variance(
     gate: &[f32],
     op: &[f32],
     e1: usize,
@@ -108,8 +90,7 @@ pub extern "C" fn vuzgari_compare_image_variance(
     s.var
 }
 
-#[unsafe(no_mangle)]
-pub extern "C" fn vuzgari_compare_image_rounds(
+pub fn vuzgari_compare_image_rounds(
     gate: &[f32],
     op: &[f32],
     e1: usize,
@@ -124,8 +105,7 @@ pub extern "C" fn vuzgari_compare_image_rounds(
     s.rounds
 }
 
-#[unsafe(no_mangle)]
-pub extern "C" fn vuzgari_compare_noise_number(
+pub fn vuzgari_compare_noise_number(
     gate: &[f32],
     op: &[f32],
     e1: usize,
@@ -144,14 +124,7 @@ pub extern "C" fn vuzgari_compare_noise_number(
     }
 }
 
-#[unsafe(no_mangle)]
-pub extern "C" fn vuzgari_compare_noise_sigma(
-    gate: &[f32],
-    op: &[f32],
-    e1: usize,
-    e2: usize,
-    e3: usize,
-) -> f32
+pub fn vuzgari_compare_noise_sigma(gate: &[f32], op: &[f32], e1: usize, e2: usize, e3: usize) -> f32
     requires { BandsInOrder gate.now op.now e1 e2 e3 }
     ensures { result ≡ figure_of (noise gate.now op.now (starts gate.now e1 e2 e3)).sigma }
 {
@@ -164,8 +137,7 @@ pub extern "C" fn vuzgari_compare_noise_sigma(
     }
 }
 
-#[unsafe(no_mangle)]
-pub extern "C" fn vuzgari_compare_noise_rounds(
+pub fn vuzgari_compare_noise_rounds(
     gate: &[f32],
     op: &[f32],
     e1: usize,

@@ -21,8 +21,7 @@ fn width_of(known: bool, w: f32) -> Width
     }
 }
 
-#[unsafe(no_mangle)]
-pub extern "C" fn vuzgari_compare_at(
+pub fn vuzgari_compare_at(
     widths: &[f32; 16],
     gains: &[f32; 16],
     residuals: &[f32; 16],
@@ -65,8 +64,7 @@ fn lay_at(answer: At, out: &mut [f32; 2]) -> u32
     }
 }
 
-#[unsafe(no_mangle)]
-pub extern "C" fn vuzgari_compare_model(
+pub fn vuzgari_compare_model(
     widths: &[f32; 16],
     gains: &[f32; 16],
     residuals: &[f32; 16],
@@ -124,8 +122,7 @@ fn model_of(noise: &[f32; 3], systematic: &[f32; 3], growth: &[f32; 2]) -> Covar
     }
 }
 
-#[unsafe(no_mangle)]
-pub extern "C" fn vuzgari_compare_noise_at(
+pub fn vuzgari_compare_noise_at(
     noise: &[f32; 3],
     systematic: &[f32; 3],
     growth: &[f32; 2],
@@ -139,8 +136,7 @@ pub extern "C" fn vuzgari_compare_noise_at(
     told(model_of(noise, systematic, growth).noise_at(sigma), out)
 }
 
-#[unsafe(no_mangle)]
-pub extern "C" fn vuzgari_compare_total(
+pub fn vuzgari_compare_total(
     noise: &[f32; 3],
     systematic: &[f32; 3],
     growth: &[f32; 2],

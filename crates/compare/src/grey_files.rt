@@ -6,8 +6,7 @@ ghost use Rattle.grey.specs.Grey.{grey_output, grey_said};
 ghost use Rattle.grey.specs.Remark.{grey_remark_bytes};
 
 // Answers how long its lines are; `said` holds at exit how long the remark is.
-#[unsafe(no_mangle)]
-pub extern "C" fn vuzgari_compare_pgmnoise(
+pub fn vuzgari_compare_pgmnoise(
     input: &[u8],
     out: &mut [u8],
     remark: &mut [u8],

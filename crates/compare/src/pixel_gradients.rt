@@ -26,8 +26,7 @@ fn leave(
     h.number
 }
 
-#[unsafe(no_mangle)]
-pub extern "C" fn vuzgari_compare_reset(
+pub fn vuzgari_compare_reset(
     origin: &mut [i32; 2],
     side: &mut usize,
     gx: &mut [f32; 1024],
@@ -53,8 +52,7 @@ pub extern "C" fn vuzgari_compare_reset(
     leave(s.reset([x, y], n), origin, side, gx, gy)
 }
 
-#[unsafe(no_mangle)]
-pub extern "C" fn vuzgari_compare_add(
+pub fn vuzgari_compare_add(
     origin: &mut [i32; 2],
     side: &mut usize,
     gx: &mut [f32; 1024],
@@ -82,8 +80,7 @@ pub extern "C" fn vuzgari_compare_add(
 }
 
 // The figures go to `out`.
-#[unsafe(no_mangle)]
-pub extern "C" fn vuzgari_compare_covariance(
+pub fn vuzgari_compare_covariance(
     origin: &[i32; 2],
     side: usize,
     gx: &[f32; 1024],

@@ -7,8 +7,7 @@ ghost use Rattle.sample.specs.Laid.{laid_in, Collectable};
 ghost use Rattle.compare.specs.Counts.{counts_in};
 
 // `collect`, with its counts at the front of a lent slice.
-#[unsafe(no_mangle)]
-pub extern "C" fn vuzgari_compare_collect(
+pub fn vuzgari_compare_collect(
     img: &[u8],
     w: usize,
     h: usize,

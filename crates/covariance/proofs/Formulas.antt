@@ -1,20 +1,14 @@
--- The noise term, step by step: what a step holds is put where the definition computes it; and each way out. Assumes nothing.
+-- Each way out, and the larger of a float and 1 / 12. Assumes nothing.
 use mathlib.Core.Path.{◌≡◌, refl, sym, ap, ◌∙◌}
 use mathlib.Core.Bool.{Bool, true, false, cond, not}
 use lib.Ieee.{Float, nan, inf, fin, le, lt, eq, is_nan, round}
 use Rattle.laws.proofs.Choice.{chosen, passed}
 use Rattle.ieee.specs.Order.{larger}
 use Rattle.refine.specs.declared.Judged.TheVariants.{Covariance, Refused}
-use Rattle.refine.specs.declared.PositionCovariance.{PositionCovariance}
-use Rattle.ranges.specs.Arith.{at, twelfth}
+use Rattle.ranges.specs.Arith.{twelfth}
 use Rattle.ranges.proofs.Negations.{not_le}
 use Rattle.covariance.specs.declared.CovarianceModel.{CovarianceModel}
-use Rattle.covariance.specs.Noise.{noise_variance, grown, scaled, term_at, noise_term, whole_term, model_in_range, noise_at, total_at}
-
-pub noise_is : (m : CovarianceModel) (sigma : Float) {v f0 f1 : Float} {r : PositionCovariance} → v ≡ noise_variance sigma → f0 ≡ grown v (at m.growth 0) → f1 ≡ grown v (at m.growth 1)
-    → r ≡ scaled m.noise v f0 f1 → r ≡ noise_term m sigma
-noise_is m sigma {v} {f0} {f1} e a b h =
-    h ∙ ap (λ (f : Float). scaled m.noise v f f1) a ∙ ap (λ (f : Float). scaled m.noise v (grown v (at m.growth 0)) f) b ∙ ap (term_at m) e
+use Rattle.covariance.specs.Noise.{noise_term, whole_term, model_in_range, noise_at, total_at}
 
 -- ---- the ways out
 

@@ -4,10 +4,9 @@ use mathlib.Core.Bool.{Bool, true, false, cond, not, ◌&&◌, true≢false, fal
 use mathlib.Core.List.{[], ◌∷◌}
 use mathlib.Core.Logic.{◌⊎◌, inl, inr, ◌↔◌}
 use native.Mathlib.Omega.{arith}
-use Prim.Native.Nat.{ℕ}
 use lib.Ieee.{Float, nan, round}
 use Rattle.ieee.specs.Order.{larger}
-use Rattle.refine.specs.Covariance.{zeros, add_covariance, all_finite, number, figures}
+use Rattle.refine.specs.Covariance.{zeros, all_finite, number, figures}
 use Rattle.refine.specs.Numbers.{OneOf}
 use Rattle.refine.specs.declared.PositionCovariance.{PositionCovariance}
 use Rattle.refine.specs.declared.Judged.{Judged}
@@ -16,7 +15,7 @@ use Rattle.ranges.specs.Arith.{twelfth}
 use Rattle.ranges.specs.Ranges.{all_within, both_within, sigma_range}
 use Rattle.covariance.specs.declared.CovarianceModel.{CovarianceModel}
 use Rattle.covariance.specs.Noise.{noise_variance, noise_term, whole_term, model_in_range, noise_at, total_at}
-use Rattle.covariance.specs.Answers.{OutOfRange, InRange, NoiseAnswers}
+use Rattle.covariance.specs.Answers.{NoiseAnswers}
 
 -- a NaN for sigma gives 1 / 12
 pub nan_variance : noise_variance nan ≡ twelfth

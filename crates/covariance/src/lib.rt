@@ -1,4 +1,6 @@
 // The covariance model of uncertainty.rs at an image noise, by value.
+#![tactic(auto)]
+
 ghost use Rattle.std.specs.Prelude.{◌≡◌};
 ghost use Rattle.std.specs.Float.{binary32};
 ghost use Rattle.ieee.specs.Sqrt.{sqrt};
@@ -10,7 +12,7 @@ use refine::{Judged, PositionCovariance};
 const ROUNDING_VAR: f32 = 0.083333336;
 
 // Everything needed to express a position covariance for a given image noise.
-#[derive(Drop)]
+#[derive(Clone, Copy)]
 pub struct CovarianceModel {
     // First-order noise covariance per unit noise variance.
     pub noise: PositionCovariance,
@@ -48,6 +50,7 @@ fn grown_by(var: f32, k: f32) -> f32
     root_of(1.0 + var * k * k)
 }
 
+#[tactic(auto, unfolding(crate::specs::Noise::scaled))]
 fn scaled_by(c: PositionCovariance, var: f32, f0: f32, f1: f32) -> PositionCovariance
     ensures { result ≡ scaled c var f0 f1 }
 {

@@ -1,4 +1,6 @@
 // A square of samples smoothed, and the values and gradients on its disk.
+#![tactic(auto)]
+
 ghost use Rattle.std.specs.Prelude.{◌≡◌, ◌+◌, ◌*◌, ◌<◌, length};
 ghost use Rattle.disk.specs.Rows.{in_rows, read};
 ghost use Rattle.disk.specs.Smoothing as Smoothing;

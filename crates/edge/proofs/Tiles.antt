@@ -1,14 +1,12 @@
 -- The answer of the tile that `load` leaves is the call's.
-use mathlib.Core.Path.{◌≡◌, refl, sym, ap, ◌∙◌}
+use mathlib.Core.Path.{◌≡◌, refl}
 use mathlib.Core.Bool.{Bool, true, false}
 use mathlib.Core.List.{List}
 use Prim.Native.Nat.{ℕ}
 use native.Mathlib.Omega.{arith}
-use borrow.Author.Tests.{eqb-true, eqb-false, eq-eqb, ne_eqb}
 use lib.Dec.{eqb}
 use lib.ListN.{length}
 use lib.IntN.{ℤ}
-use lib.Ieee.{Float}
 use Rattle.disk.specs.Rows.{in_rows, read}
 use Rattle.disk.specs.Smoothing.{smoothed}
 use Rattle.disk.proofs.Places.{read_rows, smooth_same}

@@ -1,4 +1,6 @@
 // The edge call: uncertainty.rs, `edge_width`.
+#![tactic(auto)]
+
 ghost use Rattle.std.specs.Prelude.{◌≡◌};
 ghost use Rattle.edge.specs.Edge.{edge};
 

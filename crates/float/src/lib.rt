@@ -1,5 +1,7 @@
 // The operations of Rust's f32 and f64 that Rattle's casts and operators lack. Each answers for every
 // input, and its result is what a definition of the crate `ieee` gives.
+#![tactic(auto)]
+
 ghost use Rattle.std.specs.Prelude.{◌≡◌};
 ghost use Rattle.std.specs.Float.{binary32};
 ghost use Rattle.std.specs.Float.Ieee.{to_bits};

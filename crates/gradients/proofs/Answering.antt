@@ -3,7 +3,7 @@ use mathlib.Core.Path.{◌≡◌, refl, ap, subst}
 use mathlib.Core.Bool.{Bool, true, false, cond, not}
 use mathlib.Core.List.{List, [], ◌∷◌}
 use mathlib.Core.Logic.{◌↔◌, inl, inr}
-use Prim.Native.Nat.{ℕ, ◌≤◌, ◌<◌}
+use Prim.Native.Nat.{ℕ, ◌<◌}
 use native.Mathlib.Omega.{arith}
 use lib.Dec.{eqb, ltb}
 use lib.IntN.{ℤ}
@@ -13,7 +13,6 @@ use Rattle.laws.proofs.Choice.{cond_both}
 use Rattle.limits.specs.Limits.{far_place}
 use Rattle.refine.specs.Numbers.{OneOf}
 use Rattle.refine.specs.Covariance.{zeros, all_finite, number, figures}
-use Rattle.refine.specs.declared.PositionCovariance.{PositionCovariance}
 use Rattle.refine.specs.declared.Judged.{Judged}
 use Rattle.refine.specs.declared.Judged.TheVariants.{Covariance, Refused}
 use Rattle.laws.proofs.Refusing.{Says, plainly, unless, above, its_own, otherwise, another, neither}

@@ -1,4 +1,6 @@
 // The gradient accumulator of uncertainty.rs, as a value that goes in and comes back.
+#![tactic(auto)]
+
 ghost use Rattle.std.specs.Prelude.{◌≡◌};
 ghost use Rattle.gradients.specs.Gradients.{empty, reset_of, add_of, covariance_of};
 

@@ -5,7 +5,6 @@ use mathlib.Core.Logic.{◌⊎◌, inl, inr}
 use mathlib.Core.List.{List}
 use Prim.Native.Nat.{ℕ, zero, suc, ◌+◌, ◌*◌, ◌/◌, ◌%◌, ◌-◌, ◌<◌, ◌≤◌}
 use native.Mathlib.Nat.{le_antisymm}
-use native.Mathlib.Numerals.{add-one}
 use native.Mathlib.Omega.{arith}
 use lib.Dec.{T}
 use lib.ListN.{length, get_or}
@@ -42,14 +41,6 @@ plain_cells gx gy (suc n) i h l = elim (le_or_lt n i) [ inl k ↦ last k | inr k
     last k =
         let q = neither (ne (get_or gx n nan) (get_or gx n nan)) _ (neither (any_nan gx gy n) _ h).1 in
         subst (λ (j : ℕ). Numbers gx gy j) (le_antisymm k (omega (arith, l))) (no_nan _ q.0, no_nan _ q.1)
-
-pub any_more : (gx gy : List Float) (n : ℕ) {t : Bool} → t ≡ any_nan gx gy n
-    → t || (ne (get_or gx n nan) (get_or gx n nan) || ne (get_or gy n nan) (get_or gy n nan)) ≡ any_nan gx gy (n + 1)
-any_more gx gy n e =
-    ap (λ (t : Bool). t || (ne (get_or gx n nan) (get_or gx n nan) || ne (get_or gy n nan) (get_or gy n nan))) e ∙ sym (ap (λ (m : ℕ). any_nan gx gy m) (add-one n))
-
-pub any_end : (gx gy : List Float) {n m : ℕ} {t : Bool} → t ≡ any_nan gx gy n → n ≤ m → m ≤ n → t ≡ any_nan gx gy m
-any_end gx gy e l g = e ∙ ap (λ (j : ℕ). any_nan gx gy j) (le_antisymm l g)
 
 record NanIn (a : List Float) : Type 0 where
   place : ℕ

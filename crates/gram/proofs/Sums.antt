@@ -1,8 +1,7 @@
 -- A loop that adds a gradient's products a turn: what it holds after n turns is `along` of n. Assumes nothing.
-use mathlib.Core.Path.{◌≡◌, refl, sym, ap, ◌∙◌, subst}
+use mathlib.Core.Path.{◌≡◌, refl, sym, ap, ◌∙◌}
 use mathlib.Core.List.{List}
-use Prim.Native.Nat.{ℕ, ◌+◌, ◌*◌, ◌/◌, ◌%◌, ◌≤◌}
-use native.Mathlib.Nat.{le_antisymm}
+use Prim.Native.Nat.{ℕ, ◌+◌, ◌*◌, ◌/◌, ◌%◌}
 use native.Mathlib.Numerals.{add-one}
 use native.Mathlib.Omega.{arith}
 use lib.Ieee
@@ -23,9 +22,6 @@ module _ (a b : List Float) where
       ∙ ap (λ (j : ℕ). Ieee.add binary64 (along a b step k s₀ n) (product a b j)) (omega (arith, e))
       ∙ sym (ap (λ (m : ℕ). along a b step k s₀ m) (add-one n))
 
-  along_one : (i : ℕ) (s : Float) {r : Float} → r ≡ Ieee.add binary64 s (product a b i) → r ≡ along a b 1 i s 1
-  along_one i s h = h ∙ ap (λ (j : ℕ). Ieee.add binary64 s (product a b j)) (omega arith)
-
   pub product_sum_is : (n : ℕ) → n ≡ length a → {p0 p1 p2 p3 q r : Float} → p0 ≡ partial a b 0 (n / 4) → p1 ≡ partial a b 1 (n / 4) → p2 ≡ partial a b 2 (n / 4) → p3 ≡ partial a b 3 (n / 4)
       → q ≡ along a b 1 (n / 4 * 4) p0 (n % 4) → r ≡ convert binary32 (Ieee.add binary64 (Ieee.add binary64 q p1) (Ieee.add binary64 p2 p3)) → r ≡ product_sum a b
   unfolding product_sum
@@ -44,13 +40,6 @@ module _ (a b : List Float) where
       same e f g = λ i. record { xx = e i; xy = f i; yy = g i }
 
 module _ (gx gy : List Float) where
-  pub added_start : (step k : ℕ) (s : Three) → Added gx gy step k s 0 s
-  added_start step k s = record { of_xx = refl; of_xy = refl; of_yy = refl }
-
-  pub added_one : (i : ℕ) (s : Three) {r : Three} → r.xx ≡ Ieee.add binary64 s.xx (product gx gx i) → r.xy ≡ Ieee.add binary64 s.xy (product gx gy i)
-      → r.yy ≡ Ieee.add binary64 s.yy (product gy gy i) → Added gx gy 1 i s 1 r
-  added_one i s e f g = record { of_xx = along_one gx gx i s.xx e; of_xy = along_one gx gy i s.xy f; of_yy = along_one gy gy i s.yy g }
-
   pub added_more : (step k : ℕ) (s₀ : Three) (n i : ℕ) {s r : Three} → Added gx gy step k s₀ n s → i ≡ n * step + k → Added gx gy 1 i s 1 r
       → Added gx gy step k s₀ (n + 1) r
   added_more step k s₀ n i h e q =
@@ -59,15 +48,6 @@ module _ (gx gy : List Float) where
         of_xy = along_more gx gy step k s₀.xy n i h.of_xy e q.of_xy;
         of_yy = along_more gy gy step k s₀.yy n i h.of_yy e q.of_yy;
       }
-
-  pub added_end : (step k : ℕ) (s₀ : Three) {n m : ℕ} {r : Three} → Added gx gy step k s₀ n r → n ≤ m → m ≤ n → Added gx gy step k s₀ m r
-  added_end step k s₀ {n} {m} {r} h l g = subst (λ (j : ℕ). Added gx gy step k s₀ j r) (le_antisymm l g) h
-
-  pub fours_start : {p0 p1 p2 p3 : Three} → p0 ≡ none → p1 ≡ none → p2 ≡ none → p3 ≡ none → FourSums gx gy 0 p0 p1 p2 p3
-  fours_start e0 e1 e2 e3 = record { zeroth = start 0 e0; first = start 1 e1; second = start 2 e2; third = start 3 e3 }
-    where
-      start : (l : ℕ) {p : Three} → p ≡ none → Added gx gy 4 l none 0 p
-      start l e = subst (λ (p : Three). Added gx gy 4 l none 0 p) (sym e) (added_start 4 l none)
 
   pub fours_more : {k i0 i1 i2 i3 : ℕ} {p0 p1 p2 p3 r0 r1 r2 r3 : Three} → FourSums gx gy k p0 p1 p2 p3
       → Added gx gy 1 i0 p0 1 r0 → i0 ≡ k * 4 + 0 → Added gx gy 1 i1 p1 1 r1 → i1 ≡ k * 4 + 1
@@ -80,9 +60,6 @@ module _ (gx gy : List Float) where
         second = added_more 4 2 none k i2 f.second q2 e2;
         third = added_more 4 3 none k i3 f.third q3 e3;
       }
-
-  pub fours_end : {n m : ℕ} {p0 p1 p2 p3 : Three} → FourSums gx gy n p0 p1 p2 p3 → n ≤ m → m ≤ n → FourSums gx gy m p0 p1 p2 p3
-  fours_end {n} {m} {p0} {p1} {p2} {p3} f l g = subst (λ (j : ℕ). FourSums gx gy j p0 p1 p2 p3) (le_antisymm l g) f
 
   -- the partial sums, the rest in the first, joined
   pub sums_are : {p0 p1 p2 p3 q : Three} {x y z : Float} {c : PositionCovariance} → length gx ≡ length gy → FourSums gx gy (length gx / 4) p0 p1 p2 p3

@@ -1,7 +1,7 @@
 -- The texts of a remark laid one after the other, and room for each.
 use mathlib.Core.Path.{◌≡◌, refl, subst}
 use mathlib.Core.List.{List, [], ◌++◌}
-use Prim.Native.Nat.{ℕ, ◌+◌, ◌≤◌}
+use Prim.Native.Nat.{ℕ, ◌≤◌}
 use native.Mathlib.Omega.{arith}
 use lib.Dec.{eqb}
 use lib.ListN.{length}
@@ -9,8 +9,8 @@ use borrow.Author.Tests.{eq-eqb, ne_eqb}
 use Rattle.io.specs.Counts.{IsPrefixLen}
 use Rattle.laws.proofs.Choice.{chosen, passed}
 use Rattle.text.specs.Placed.{LaidTo, Fronted}
-use Rattle.text.proofs.Lays.{after, left, front}
-use Rattle.reasons.specs.Reasons.{numbered_bytes, numbered_of}
+use Rattle.text.proofs.Lays.{after, front}
+use Rattle.reasons.specs.Reasons.{numbered_of}
 use Rattle.reasons.proofs.Numbered.{numbered_short}
 use Rattle.lid_bytes.proofs.Reports.{counts}
 use Rattle.grey.specs.Remark.{grey_no_figure, grey_remark, grey_remark_bytes}
@@ -20,9 +20,6 @@ unfolding grey_remark
 nothing n out h = subst (λ (t : List ℕ). Fronted out t 0 out × IsPrefixLen 0 out) (chosen (eqb n 0) [] (grey_no_figure ++ numbered_of n) (eq-eqb n 0 h)) ((refl, refl), (omega arith, refl))
 
 module _ (n : ℕ) (out l₁ : List ℕ) (r₁ : ℕ) (room : grey_remark_bytes ≤ length out) (p₁ : LaidTo out 0 grey_no_figure r₁ l₁) where
-  pub left_one : r₁ + numbered_bytes ≤ length l₁
-  left_one = left out l₁ 0 r₁ numbered_bytes grey_no_figure (omega arith) p₁
-
   pub said : (l₂ : List ℕ) (r₂ : ℕ) → (n ≡ 0 → ⊥) → LaidTo l₁ r₁ (numbered_of n) r₂ l₂ → Fronted out (grey_remark n) r₂ l₂ × IsPrefixLen r₂ l₂
   unfolding grey_remark
   said l₂ r₂ h p₂ = (whole, counts (grey_remark n) out l₂ r₂ whole)

@@ -1,4 +1,6 @@
 // `pgmnoise`, from its input's bytes to its output's: parse, measure, print.
+#![tactic(auto)]
+
 ghost use Rattle.std.specs.Prelude.{◌≡◌, ◌≤◌, length, replicate};
 ghost use Rattle.io.specs.Counts.{IsPrefixLen};
 ghost use Rattle.lid_bytes.specs.Report.{report_bytes};

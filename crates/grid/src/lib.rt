@@ -1,5 +1,7 @@
 // The grid of a pass: its step, where its rows begin, how many windows it has, and the work memory that follows from it.
 // Whole numbers only; no pixel is looked at.
+#![tactic(auto)]
+
 ghost use Rattle.std.specs.Prelude.{◌≡◌, ◌+◌, ◌*◌, ◌<◌, ◌≤◌, ◌^◌};
 ghost use Rattle.grid.specs.Step.{step_of};
 ghost use Rattle.grid.specs.Grid.{Sides, count_below, first_x, row_count, rows_of, total_of};

@@ -1,4 +1,6 @@
 // A grey image over lent pixels: imageview.rs, the part that the edge call reads.
+#![tactic(auto)]
+
 ghost use Rattle.std.specs.Prelude.{◌≡◌, ◌*◌, length, pos, ◌+ℤ◌, [], ◌∷◌};
 ghost use Rattle.imageview.specs.Sample.{clamped, sample};
 
@@ -38,7 +40,7 @@ pub fn sample_at(
 }
 
 // Lent pixels, row by row, with the sides and the origin that a place is moved by.
-#[derive(Drop)]
+#[derive(Clone, Copy)]
 pub struct ImageView<'a> {
     pub pixels: &'a [u8],
     pub width: usize,

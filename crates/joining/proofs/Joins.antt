@@ -1,38 +1,27 @@
 -- What the loops over the bands keep, and the answer by its stages. Assumes nothing.
-use mathlib.Core.Path.{◌≡◌, refl, sym, ap, ◌∙◌}
-use mathlib.Core.Bool.{true, false}
-use mathlib.Core.List.{List, [], ◌∷◌, ◌++◌, append_assoc, append-nil}
+use mathlib.Core.Path.{◌≡◌, sym, ap, ◌∙◌}
+use mathlib.Core.List.{List, [], ◌∷◌, ◌++◌}
 use Prim.Native.Nat.{ℕ, ◌+◌, ◌-◌, ◌/◌, ◌%◌, ◌≤◌, ◌<◌}
 use native.Mathlib.Omega.{arith}
-use native.Mathlib.Numerals.{add-one}
 use lib.Dec.{eqb, ltb}
-use lib.ListN.{length, get_or, take, drop, set, length-set, drop_of_length-le}
-use lib.Seq.{take-suc-set, drop-cons, length-take-le, get_or-take}
+use lib.ListN.{length, take, drop}
+use lib.Seq.{length-take-le, get_or-take}
 use lib.Ieee.{Float, nan, binary64, add, mul, le}
 use borrow.Author.Tests.{eq-eqb, ne_eqb, lt-ltb, le-ltb}
 use Rattle.laws.proofs.Choice.{chosen, passed, cond_both}
 use Rattle.quantile.specs.Rising.{at, rising}
 use Rattle.quantile.proofs.Inserting.{rising_same}
-use Rattle.ieee.specs.Numbers.{f64_of}
-use Rattle.sums.specs.Admitted.{total_with, no_total}
+use Rattle.sums.specs.Admitted.{no_total}
 use Rattle.sums.specs.declared.Total.{Total}
 use Rattle.rounds.specs.declared.Found.{Found}
 use Rattle.rounds.specs.declared.Found.TheVariants.{Variance, Missing}
 use Rattle.joining.specs.Numbers.{half}
-use Rattle.joining.specs.Joining.{variance_of, variances, median_in, median, outlier_limit, with_band, with_found, join_from, joined_bands, min_samples, deviation, sigma_of_total, sigma_of}
+use Rattle.joining.specs.Joining.{variances, median_in, median, outlier_limit, with_band, with_found, join_from, joined_bands, min_samples, deviation, sigma_of_total, sigma_of}
 use Rattle.joining.specs.Windows.{windows_of, windows_in}
 use Rattle.joining.specs.declared.Sigma.{Sigma}
 use Rattle.joining.specs.declared.Sigma.TheVariants.{Figure, Number}
 
 -- ---- the variances that there are
-
-pub push_one : (vars : List Float) (n : ℕ) (var : Float) (f : Found) (m : ℕ) → n < length vars → f ≡ Variance m var
-    → (take (n + 1) (set vars n var) ≡ take n vars ++ variance_of f) × (n + 1 ≤ n + 1) × (length (set vars n var) ≡ length vars)
-push_one vars n var f m h e =
-    (ap (λ (k : ℕ). take k (set vars n var)) (add-one n) ∙ take-suc-set vars n var h ∙ sym (ap (λ (x : Found). take n vars ++ variance_of x) e), omega arith, length-set vars n var)
-
-pub push_none : (vars : List Float) (n : ℕ) (f : Found) → f ≡ Missing → take n vars ≡ take n vars ++ variance_of f
-push_none vars n f e = sym (append-nil (take n vars)) ∙ sym (ap (λ (x : Found). take n vars ++ variance_of x) e)
 
 -- b of 4 bands are done, and n of those have a variance
 pub record Collected (bands : List Found) (vars : List Float) (n b : ℕ) : Type 0 where
@@ -40,28 +29,6 @@ pub record Collected (bands : List Found) (vars : List Float) (n b : ℕ) : Type
   pub few : n ≤ b
   pub long : length vars ≡ 4
   pub left : take n vars ++ variances (drop b bands) ≡ variances bands
-
-pub collected_start : (bands : List Found) (vars : List Float) → length vars ≡ 4 → Collected bands vars 0 0
-collected_start bands vars e = record { low = omega arith; few = omega arith; long = e; left = refl }
-
-next_band : (bands : List Found) (b : ℕ) (d : Found) → b < length bands → drop b bands ≡ get_or bands b d ∷ drop (b + 1) bands
-next_band bands b d h = drop-cons bands b d h ∙ sym (ap (λ (k : ℕ). get_or bands b d ∷ drop k bands) (add-one b))
-
-module _ {bands : List Found} {vars : List Float} {n b : ℕ} (c : Collected bands vars n b) (e : length bands ≡ 4) where
-  pub collected_more : b < 4 → {vars' : List Float} {m : ℕ} (d : Found) → take m vars' ≡ take n vars ++ variance_of (get_or bands b d) → m ≤ n + 1 → length vars' ≡ 4
-      → Collected bands vars' m (b + 1)
-  collected_more h {vars'} {m} d q f g =
-      record {
-        low = omega arith;
-        few = omega (arith, c.few);
-        long = g;
-        left = ap (λ (l : List Float). l ++ variances (drop (b + 1) bands)) q ∙ append_assoc (take n vars) (variance_of (get_or bands b d)) (variances (drop (b + 1) bands))
-            ∙ sym (ap (λ (l : List Found). take n vars ++ variances l) (next_band bands b d (omega (arith, e)))) ∙ c.left;
-      }
-
-  pub collected_end : 4 ≤ b → (take n vars ≡ variances bands) × (n ≤ 4) × (length vars ≡ 4)
-  collected_end h =
-      (sym (append-nil (take n vars)) ∙ sym (ap (λ (l : List Found). take n vars ++ variances l) (drop_of_length-le bands {i = b} (omega (arith, e)))) ∙ c.left, omega (arith, c.few, c.low), c.long)
 
 -- ---- the median
 
@@ -92,19 +59,6 @@ module _ (vars : List Float) (n : ℕ) (long : length vars ≡ 4) (h : n ≤ 4) 
 
 -- ---- the bands that are joined
 
-module _ (limit : Float) (k : Total) (f : Found) where
-  pub band_in : (n : ℕ) (var : Float) → f ≡ Variance n var → le var limit ≡ true → {w : Float} → w ≡ f64_of n
-      → total_with (k.n + n) (add binary64 k.sum (mul binary64 w var)) ≡ with_found limit k f
-  band_in n var e t q =
-      ap (λ (x : Float). total_with (k.n + n) (add binary64 k.sum (mul binary64 x var))) q ∙ chosen (le var limit) (with_band k n var) k t
-      ∙ sym (ap (with_found limit k) e)
-
-  pub band_out : (n : ℕ) (var : Float) → f ≡ Variance n var → le var limit ≡ false → k ≡ with_found limit k f
-  band_out n var e t = passed (le var limit) (with_band k n var) k t ∙ sym (ap (with_found limit k) e)
-
-pub count_is : (f : Found) {n : ℕ} {var : Float} → f ≡ Variance n var → windows_of f ≡ n
-count_is f e = ap windows_of e
-
 found_few : (limit : Float) (k : Total) (f : Found) → (with_found limit k f).n ≤ k.n + windows_of f
 found_few limit k (Variance n var) = cond_both (λ (x : Total). x.n ≤ k.n + n) (le var limit) (with_band k n var) k (omega arith) (omega arith)
 found_few limit k Missing = omega arith
@@ -118,24 +72,6 @@ pub record Joining (limit : Float) (bands : List Found) (k : Total) (b : ℕ) : 
   pub low : b ≤ 4
   pub few : k.n + windows_in (drop b bands) ≤ windows_in bands
   pub left : join_from limit k (drop b bands) ≡ join_from limit no_total bands
-
-pub joining_start : (limit : Float) (bands : List Found) → Joining limit bands no_total 0
-joining_start limit bands = record { low = omega arith; few = omega arith; left = refl }
-
-module _ {limit : Float} {bands : List Found} {k : Total} {b : ℕ} (j : Joining limit bands k b) (e : length bands ≡ 4) where
-  pub joining_room : b < 4 → (d : Found) → k.n + windows_of (get_or bands b d) ≤ windows_in bands
-  joining_room h d = omega (arith, j.few, ap windows_in (next_band bands b d (omega (arith, e))))
-
-  pub joining_more : b < 4 → {k' : Total} (d : Found) → k' ≡ with_found limit k (get_or bands b d) → Joining limit bands k' (b + 1)
-  joining_more h {k'} d q =
-      record {
-        low = omega arith;
-        few = omega (arith, j.few, ap windows_in (next_band bands b d (omega (arith, e))), found_few limit k (get_or bands b d), ap (λ (x : Total). x.n) q);
-        left = ap (λ (x : Total). join_from limit x (drop (b + 1) bands)) q ∙ sym (ap (join_from limit k) (next_band bands b d (omega (arith, e)))) ∙ j.left;
-      }
-
-  pub joining_end : 4 ≤ b → k ≡ join_from limit no_total bands
-  joining_end h = sym (ap (join_from limit k) (drop_of_length-le bands {i = b} (omega (arith, e)))) ∙ j.left
 
 -- ---- the answer
 

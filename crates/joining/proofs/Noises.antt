@@ -1,7 +1,7 @@
 -- What the loop of `noise_sigma` keeps, and the answer from the pass. Assumes nothing.
 use mathlib.Core.Path.{◌≡◌, refl, sym, ap, ◌∙◌, subst}
 use mathlib.Core.List.{List}
-use Prim.Native.Nat.{ℕ, zero, suc, ◌+◌, ◌-◌, ◌*◌, ◌≤◌, ◌<◌}
+use Prim.Native.Nat.{ℕ, zero, suc, ◌+◌, ◌*◌, ◌≤◌, ◌<◌}
 use native.Mathlib.Omega.{arith}
 use native.Mathlib.Nat.{le_antisymm}
 use native.Mathlib.Numerals.{add-one}
@@ -11,7 +11,7 @@ use lib.Ieee.{Float}
 use borrow.Author.Tests.{lt-ltb, le-ltb}
 use Rattle.laws.specs.Lists.{from}
 use Rattle.laws.proofs.Choice.{chosen, passed}
-use Rattle.laws.proofs.Fill.{Tab, tab_start, tab_put, tab_end}
+use Rattle.laws.proofs.Fill.{Tab, tab_put, tab_end}
 use Rattle.rounds.specs.Rounds.{band, image_variance, Bands}
 use Rattle.rounds.specs.declared.Settled.{Settled}
 use Rattle.rounds.specs.declared.Found.{Found}
@@ -52,10 +52,6 @@ module _ {g o : List Float} {starts : List ℕ} (B : Bands g o starts) (image : 
 pub record Gathered (g o : List Float) (starts : List ℕ) (var : Float) (first : ℕ) (bands : List Found) (r b : ℕ) : Type 0 where
   pub tab : Tab (λ (i : ℕ). (band_at g o starts var i).found) 4 b bands
   pub count : r ≡ first + band_rounds g o starts var b
-
-pub gathered_start : (g o : List Float) (starts : List ℕ) (var : Float) (first : ℕ) (bands : List Found) → length bands ≡ 4
-    → Gathered g o starts var first bands first 0
-gathered_start g o starts var first bands e = record { tab = tab_start bands e; count = omega arith }
 
 module _ {g o : List Float} {starts : List ℕ} (image : Settled) (e : image ≡ image_variance g o starts) {bands : List Found} {r b : ℕ}
     (G : Gathered g o starts image.var image.rounds bands r b) where

@@ -1,5 +1,6 @@
 -- Worked examples: each tells its definition from one that takes another order, rounding, bound or constant.
-use Rattle.std.specs.Prelude.{◌≡◌, refl, true, false, List, [], ◌∷◌, ℕ, Float}
+use Rattle.std.specs.Prelude.{◌≡◌, refl, false, List, [], ◌∷◌, ℕ, Float}
+use Rattle.std.proofs.Common.{◌∙◌}
 use Rattle.std.specs.Float.{binary32, binary64}
 use Rattle.std.specs.Float.Ieee.{round, add, sub, neg, mul, div, lt, le, eq, is_nan, of_bits, of_int}
 use Rattle.ieee.specs.Convert.{convert}
@@ -79,8 +80,11 @@ in_band_order = refl
 
 -- a variance of 400 on 512 windows is a deviation of 1
 pub one_level : deviation (total 512 204800) ≡ f64_of 1
-unfolding deviation sqrt convert div of_int round
-one_level = refl
+unfolding deviation sqrt convert div of_bits of_int round
+one_level =
+    let figure : deviation (total 512 204800) ≡ of_bits binary32 0x3F80_0000 = refl in
+    let whole : of_bits binary32 0x3F80_0000 ≡ f64_of 1 = refl in
+    figure ∙ whole
 
 -- one band of n windows whose squared outputs sum to a number: each figure lies so near the middle of two f32 that another order
 -- of root and quotients, or one rounding less or more, gives the other

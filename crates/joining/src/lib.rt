@@ -1,4 +1,6 @@
 // The noise of a pass from its bands: noise.rs, `noise_sigma`.
+#![tactic(auto)]
+
 ghost use Rattle.std.specs.Prelude.{◌≡◌, ◌++◌, ℕ, ◌+◌, ◌-◌, ◌*◌, ◌^◌, ◌≤◌, ◌<◌, length, take};
 ghost use Rattle.quantile.specs.Rising.{at, rising, inserted, Rises};
 ghost use Rattle.sums.specs.Admitted.{no_total};
@@ -18,7 +20,7 @@ const MIN_SAMPLES: usize = 512;
 const OPERATOR_GAIN: f64 = 20.0;
 
 // The standard deviation of the noise, or document 01's number of why there is none.
-#[derive(Drop)]
+#[derive(Clone, Copy)]
 pub enum Sigma {
     Figure(f32),
     Number(u32),

@@ -1,7 +1,7 @@
 -- Worked cases at which another form of a + t * (b - a), or of the tests at the knots, gives another number. Floats are given by
 -- their f32 patterns. Assumes nothing.
 use mathlib.Core.Path.{◌≡◌, refl}
-use mathlib.Core.Bool.{Bool, true, false}
+use mathlib.Core.Bool.{true, false}
 use mathlib.Core.List.{List, [], ◌∷◌, map}
 use Prim.Native.Nat.{ℕ}
 use lib.Ieee

@@ -25,17 +25,6 @@ pub record Every (p : ℕ → Bool) (n k : ℕ) (all : Bool) : Type 0 where
   pub low : k ≤ n
   pub so : all ≡ every p k
 
-module _ {p : ℕ → Bool} {n : ℕ} where
-  pub every_start : Every p n 0 true
-  every_start = record { low = omega arith; so = refl }
-
-  pub every_more : {k : ℕ} {all b : Bool} → Every p n k all → k < n → b ≡ p k → Every p n (k + 1) (all && b)
-  every_more {k} {all} {b} i h e =
-      record { low = omega arith; so = ap (λ (x : Bool). x && b) i.so ∙ ap (λ (x : Bool). every p k && x) e ∙ sym (ap (every p) (add-one k)) }
-
-  pub every_end : {k : ℕ} {all : Bool} → Every p n k all → n ≤ k → all ≡ every p n
-  every_end i h = i.so ∙ ap (every p) (le_antisymm i.low h)
-
 -- ---- the tests of all columns at once
 
 -- the width before place k; before the first, a NaN

@@ -1,17 +1,19 @@
 // Up to sixteen knots as arrays of widths, gains and residuals, and where an edge width lies among them.
+#![tactic(auto)]
+
 ghost use Rattle.std.specs.Prelude.{◌≡◌, ◌<◌, ◌≤◌};
 ghost use Rattle.knots.specs.Places.{every, rises_at, place_from, place, blend, value_at};
 ghost use Rattle.knots.specs.Loops.{sound, AmongKnots};
 
 // The width of an edge, px.
-#[derive(Drop)]
+#[derive(Clone, Copy)]
 pub enum Width {
     Known(f32),
     Unknown,
 }
 
 // Where a width lies among the knots: at one, or a part of the way from one to the next.
-#[derive(Drop)]
+#[derive(Clone, Copy)]
 pub enum Place {
     Knot(usize),
     Between(usize, f32),
@@ -76,6 +78,7 @@ fn between_knots(widths: &[f32; 16], w: f32, n: usize) -> Place
     Place::Knot(k)
 }
 
+#[tactic(auto, unfolding(crate::specs::Places::place))]
 pub fn place_of(widths: &[f32; 16], count: usize, width: Width) -> Place
     requires { (0 < count) × (count ≤ 16) }
     ensures { result ≡ place widths.now count width }
@@ -93,6 +96,7 @@ pub fn place_of(widths: &[f32; 16], count: usize, width: Width) -> Place
 }
 
 // A gain or residual at a place.
+#[tactic(auto, unfolding(crate::specs::Places::value_at))]
 pub fn interpolated(values: &[f32; 16], p: Place) -> f32
     requires { AmongKnots 16 p }
     ensures { result ≡ value_at values.now p }

@@ -1,4 +1,6 @@
 // The levels of the disk's 81 values: uncertainty.rs, part of `PixelTile::edge_width`.
+#![tactic(auto)]
+
 ghost use Rattle.std.specs.Prelude.{◌≡◌, ◌^◌, ◌≤◌, max, min, [], ◌∷◌};
 ghost use Rattle.std.specs.Float.{binary32};
 ghost use Rattle.std.specs.Float.Ieee.{sub, div, le};

@@ -1,4 +1,6 @@
 // `lidnoise`, from its input's bytes to its output's: parse, measure, print.
+#![tactic(auto)]
+
 ghost use Rattle.std.specs.Prelude.{◌≡◌, false, ◌*◌, ◌≤◌, length, drop};
 ghost use Rattle.io.specs.Counts.{IsPrefixLen};
 ghost use Rattle.noise.specs.Call.{noise_of};

@@ -1,4 +1,6 @@
 // What `lidnoise` reads and writes, as bytes: an input parsed, an answer printed.
+#![tactic(auto)]
+
 ghost use Rattle.std.specs.Prelude.{◌≡◌, ◌++◌, ◌≤◌, length, drop, replicate};
 ghost use Rattle.io.specs.Counts.{IsPrefixLen};
 ghost use Rattle.answer.specs.Fields.{words_of};

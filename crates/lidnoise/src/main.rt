@@ -1,28 +1,27 @@
 // `lidnoise`: a small lid on standard input, its noise in two lines on standard output; on standard error why there is no
 // figure, and what could not be read or written.
-use libc::{STDERR_FILENO, STDIN_FILENO, STDOUT_FILENO};
+#![tactic(auto)]
 
-fn main() {
-    if os::arg_count() > 1 {
-        io::write_all(
-            STDERR_FILENO,
-            b"lidnoise: it takes no words and reads a lid from standard input: lidnoise <FILE\n",
+use std::io::Print;
+
+fn main(rt: HostRuntime) {
+    if streams::has_words(&rt) {
+        let _ = eprintln!(rt;
+            "lidnoise: it takes no words and reads a lid from standard input: lidnoise <FILE"
         );
     }
     let mut input = lid_bytes::input_room();
-    let before = os::errno();
-    let n = io::read_full(STDIN_FILENO, &mut input);
-    // A read that fails sets errno; one that ends the input does not.
-    if os::errno() != before {
-        os::fail(b"lidnoise: standard input");
+    let filled = streams::read_full(&mut rt.stdin(), &mut input);
+    if let Some(why) = filled.failed {
+        streams::complain(&rt, "lidnoise: standard input", why);
     }
     let mut out = lid_bytes::report_room();
     let mut remark = lid_bytes::remark_room();
-    let lengths = lid::lidnoise(&input[..n], &mut out, &mut remark);
+    let lengths = lid::lidnoise(&input[..filled.count], &mut out, &mut remark);
     let written = lengths.output;
     let said = lengths.remark;
-    if !io::write_all(STDOUT_FILENO, &out[..written]) {
-        os::fail(b"lidnoise: standard output");
+    if let Err(why) = rt.write_all(&out[..written]) {
+        streams::complain(&rt, "lidnoise: standard output", why);
     }
-    io::write_all(STDERR_FILENO, &remark[..said]);
+    let _ = rt.stderr().write_all(&remark[..said]);
 }

@@ -1,4 +1,6 @@
 // What a call judges before it looks at a pixel: the sides of an image, how many pixels it has, and places.
+#![tactic(auto)]
+
 ghost use Rattle.std.specs.Prelude.{◌≡◌};
 ghost use Rattle.limits.specs.Limits.{too_large, too_small, image_number, far_place, far as is_far};
 

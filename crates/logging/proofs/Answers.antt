@@ -83,7 +83,7 @@ module _ (img : List ℕ) (bytes : (i : ℕ) → get_or img i 0 ≤ 255) (w h : 
         sides = sides;
         answer = stored;
         figure = λ z. (le_trans (sigma_is_number img bytes w h short).bits (omega arith), ((demand1 img w h short).figure.0 z).1);
-        no_figure_lem = λ n. ap (to_bits binary32) ((demand1 img w h short).unless n).0 ∙ zero_bits;
+        no_figure = λ n. ap (to_bits binary32) ((demand1 img w h short).unless n).0 ∙ zero_bits;
         counts = elim (one_of_both (eqb a.passes 1)) [ inl e ↦ inl (counted ∙ e) | inr e ↦ inr (counted ∙ e) ];
       }
 

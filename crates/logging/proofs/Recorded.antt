@@ -13,7 +13,7 @@ use Rattle.answer.specs.declared.Answer.{Answer}
 use Rattle.answer.specs.Fields.{bytes_of_words, answer_bytes}
 use Rattle.noise.specs.Call.{noise_of}
 use Rattle.record.specs.Rule.{AnswerStored, Allowed}
-use Rattle.record.specs.Records.{form_nF, size_of, written_as, read_as}
+use Rattle.record.specs.Records.{form_nf, size_of, written_as, read_as}
 use Rattle.record.specs.declared.Record.{Record}
 use Rattle.record.specs.Demand1.{WriteMeets}
 use Rattle.record.specs.RoundTrip.{Typed}
@@ -77,12 +77,12 @@ module _ (img : List ℕ) (bytes : (i : ℕ) → get_or img i 0 ≤ 255) (w h : 
         allowed = rule;
         same = same;
         taken = λ rest out.
-            subst (λ (r : Record). ((written_as form_nF r out).number ≡ 0) ↔ (size_of form_nF ≤ length out)) (sym (same rest))
+            subst (λ (r : Record). ((written_as form_nf r out).number ≡ 0) ↔ (size_of form_nf ≤ length out)) (sym (same rest))
             (taken out);
         changes = λ rest out l.
-            ap (λ (r : Record). (written_as form_nF r out).bytes) (same rest) ∙ (writes out).changes ((writes out).taken.1 (rule, l));
+            ap (λ (r : Record). (written_as form_nf r out).bytes) (same rest) ∙ (writes out).changes ((writes out).taken.1 (rule, l));
         reads = λ rest out n l.
-            ap (λ (r : Record). read_as form_nF (written_as form_nF r out).bytes) (same rest)
+            ap (λ (r : Record). read_as form_nf (written_as form_nf r out).bytes) (same rest)
             ∙ read_written (record_of_answer shot w h a) out (typed n) ((writes out).taken.1 (rule, l));
       }
     where
@@ -103,8 +103,8 @@ module _ (img : List ℕ) (bytes : (i : ℕ) → get_or img i 0 ≤ 255) (w h : 
           }
 
       writes : (out : List ℕ)
-          → WriteMeets form_nF (record_of_answer shot w h a) out (written_as form_nF (record_of_answer shot w h a) out)
-      writes out = write_meets form_nF (record_of_answer shot w h a) out
+          → WriteMeets form_nf (record_of_answer shot w h a) out (written_as form_nf (record_of_answer shot w h a) out)
+      writes out = write_meets form_nf (record_of_answer shot w h a) out
 
-      taken : (out : List ℕ) → ((written_as form_nF (record_of_answer shot w h a) out).number ≡ 0) ↔ (size_of form_nF ≤ length out)
+      taken : (out : List ℕ) → ((written_as form_nf (record_of_answer shot w h a) out).number ≡ 0) ↔ (size_of form_nf ≤ length out)
       taken out = (λ e. ((writes out).taken.0 e).1, λ l. (writes out).taken.1 (rule, l))

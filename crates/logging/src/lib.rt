@@ -1,4 +1,6 @@
 // From the noise call's answer to the record of a shot.
+#![tactic(auto)]
+
 ghost use Rattle.std.specs.Prelude.{◌≡◌, ◌≤◌, ◌<◌, length};
 ghost use Rattle.logging.specs.Logging.{field_at, record_from};
 

@@ -1,4 +1,6 @@
 // The windows of a pass measured into the lent i32 slice.
+#![tactic(auto)]
+
 ghost use Rattle.std.specs.Prelude.{◌≡◌, ℕ, ◌+◌, ◌*◌, ◌<◌, ◌≤◌, min, length};
 ghost use Rattle.grid.specs.Grid.{total_of};
 ghost use Rattle.measure.specs.Figures.{figures_of, Measurable};

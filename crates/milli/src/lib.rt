@@ -1,4 +1,6 @@
 // Thousandths of an f32, by whole numbers on its bit pattern.
+#![tactic(auto)]
+
 ghost use Rattle.std.specs.Prelude.{◌≡◌};
 ghost use Rattle.milli.specs.Thousandths.{milli_of};
 

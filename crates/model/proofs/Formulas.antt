@@ -2,16 +2,10 @@
 use mathlib.Core.Path.{◌≡◌, sym, ap, ◌∙◌}
 use mathlib.Core.Bool.{Bool, true, false, cond}
 use mathlib.Core.List.{List}
-use Prim.Native.Nat.{ℕ}
 use lib.Ieee.{Float, le}
 use Rattle.ieee.specs.Numbers.{plus_zero}
 use Rattle.refine.specs.declared.PositionCovariance.{PositionCovariance}
 use Rattle.ranges.specs.Arith.{◌⊕◌, ◌⊖◌, ◌⊗◌, ◌⊘◌, at}
-use Rattle.knots.specs.declared.Width.{Width}
-use Rattle.knots.specs.declared.Place.{Place}
-use Rattle.knots.specs.Places.{place, value_at}
-use Rattle.model.specs.declared.GainResidual.{GainResidual}
-use Rattle.model.specs.Helpers.{pair_at}
 use Rattle.model.specs.Systematic.{uniform_variance, about, systematic}
 
 module _ (g rho floor : Float) (u : List Float) (grid : Float) where
@@ -37,11 +31,3 @@ module _ (g rho floor : Float) (u : List Float) (grid : Float) where
       → r ≡ systematic g rho floor u grid
   unfolding by
   something_said e t h = h ∙ is e t
-
--- ---- the knots at a width
-
-pub pair_is : (l g r : List Float) (n : ℕ) (w : Width) {p : Place} {a b : Float} → p ≡ place l n w → a ≡ value_at g p → b ≡ value_at r p → record { gain = a; residual = b } ≡ pair_at l g r n w
-pair_is l g r n w e f h = same (f ∙ ap (value_at g) e) (h ∙ ap (value_at r) e)
-  where
-    same : {x y x' y' : Float} → x ≡ x' → y ≡ y' → ◌≡◌ {A = GainResidual} (record { gain = x; residual = y }) (record { gain = x'; residual = y' })
-    same f g = λ i. record { gain = f i; residual = g i }

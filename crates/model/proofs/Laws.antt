@@ -8,8 +8,6 @@ use native.Mathlib.Omega.{arith}
 use lib.Dec.{eqb, ltb, leb}
 use lib.Ieee.{Float, lt, of_int, round}
 use borrow.Author.Tests.{eqb-true}
-use Rattle.refine.specs.Covariance.{all_finite}
-use Rattle.refine.specs.declared.PositionCovariance.{PositionCovariance}
 use Rattle.laws.proofs.Refusing.{and}
 use Rattle.ranges.specs.Arith.{at, one, twelfth}
 use Rattle.ranges.specs.Ranges.{within, up_to}
@@ -18,7 +16,6 @@ use Rattle.knots.specs.declared.Place.{Place}
 use Rattle.knots.specs.Places.{every, rises_at, knot_at, place, value_at}
 use Rattle.knots.proofs.Tables.{place_in}
 use Rattle.knots.proofs.Laws.{every_same, place_same, value_same}
-use Rattle.model.specs.declared.At.{At}
 use Rattle.model.specs.declared.At.TheVariants.{Given, Refused}
 use Rattle.model.specs.Knots.{table, rising_knots, knots_in_range, knots_number, gain_at, residual_at, at_of}
 use Rattle.model.specs.Systematic.{uniform_variance}

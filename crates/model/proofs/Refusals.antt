@@ -1,4 +1,4 @@
--- Which number a call gets, from the tests on the way: one law for each way out. Assumes nothing.
+-- Which number a call gets, from the tests on the way. Assumes nothing.
 use mathlib.Core.Path.{◌≡◌, refl, sym, ap, ◌∙◌}
 use mathlib.Core.Bool.{Bool, true, false, cond, not, ◌&&◌}
 use mathlib.Core.List.{List}
@@ -6,7 +6,7 @@ use Prim.Native.Nat.{ℕ, ◌-◌, ◌≤◌, ◌<◌}
 use native.Mathlib.Omega.{arith}
 use lib.Dec.{ltb, leb}
 use lib.Ieee.{Float}
-use borrow.Author.Tests.{lt-ltb, le-leb, lt-leb, ltb-true, leb-true}
+use borrow.Author.Tests.{lt-ltb, le-leb, ltb-true, leb-true}
 use Rattle.refine.specs.Covariance.{all_finite}
 use Rattle.refine.specs.declared.PositionCovariance.{PositionCovariance}
 use Rattle.laws.proofs.Refusing.{and, and_left, and_right, stands, follows}
@@ -29,16 +29,6 @@ module _ (s : SystematicModel) where
   number_is : (a b : Bool) → rising_knots s ≡ a → knots_in_range s ≡ b → by a b ≡ knots_number s
   unfolding knots_number by
   number_is a b f g = ap (λ (z : Bool). by z b) (sym f) ∙ ap (λ (z : Bool). by (rising_knots s) z) (sym g)
-
-  pub none : s.count ≡ 0 → 14 ≡ knots_number s
-  unfolding by
-  none e = number_is false (knots_in_range s) (ap (λ (n : ℕ). (ltb 0 n && leb n 16) && every (rises_at s.widths) (n - 1)) e) refl
-
-  pub too_many : 16 < s.count → 14 ≡ knots_number s
-  unfolding by
-  too_many h =
-      number_is false (knots_in_range s)
-      (ap (λ (z : Bool). z && every (rises_at s.widths) (s.count - 1)) (and (lt-ltb 0 s.count (omega arith)) (lt-leb s.count 16 h))) refl
 
   module _ (p : (s.count ≡ 0) → ⊥) (q : s.count ≤ 16) where
     counted : rising_knots s ≡ every (rises_at s.widths) (s.count - 1)

@@ -1,4 +1,6 @@
 // The systematic model of uncertainty.rs, and the covariance model that it makes, by value.
+#![tactic(auto)]
+
 ghost use Rattle.std.specs.Prelude.{◌≡◌, ◌<◌, ◌≤◌};
 ghost use Rattle.model.specs.Knots.{table, knots_number, at_of};
 ghost use Rattle.model.specs.Helpers.{pair_at};
@@ -48,6 +50,7 @@ fn uniform_variance(width: f32) -> f32
     width * width / 12.0
 }
 
+#[tactic(auto, unfolding(crate::specs::Systematic::about))]
 fn about_of(ex: f32, ey: f32, spread: f32) -> PositionCovariance
     ensures { result ≡ about ex ey spread }
 {
@@ -72,6 +75,7 @@ fn systematic_of(g: f32, rho: f32, floor: f32, offset: [f32; 2], grid: f32) -> P
 }
 
 // What refuses the knots: 14, then 12, or 0.
+#[tactic(auto, unfolding(crate::specs::Knots::knots_number))]
 fn knots_number(
     widths: &[f32; 16],
     gains: &[f32; 16],

@@ -19,7 +19,7 @@ use Rattle.grid.proofs.Places.{total_most}
 use Rattle.grid.proofs.Memory.{no_more}
 use Rattle.grid.proofs.Steps.{few}
 use Rattle.pass.specs.Memory.{ints_for, floats_for}
-use Rattle.noise.specs.Refusals.{short_of, first_of, refusal_of}
+use Rattle.noise.specs.Refusals.{short_of, refusal_of}
 use Rattle.noise.specs.declared.Verdict.{Verdict}
 use Rattle.noise.specs.Steps.{Ready, verdict_against, verdict_for, verdict_by, verdict_of}
 

@@ -1,9 +1,9 @@
 -- Demand 1 at the noise call. Assumes nothing.
-use mathlib.Core.Path.{◌≡◌, refl, sym, ap, ◌∙◌, subst}
+use mathlib.Core.Path.{◌≡◌, refl, sym, ap, subst}
 use mathlib.Core.Bool.{Bool, true, false, cond}
-use mathlib.Core.Logic.{◌↔◌, ◌⊎◌, inl, inr}
+use mathlib.Core.Logic.{◌↔◌, inl, inr}
 use mathlib.Core.List.{List}
-use Prim.Native.Nat.{ℕ, suc, ◌≤◌, ◌<◌}
+use Prim.Native.Nat.{ℕ, suc, ◌≤◌}
 use native.Mathlib.Omega.{arith}
 use lib.ListN.{length}
 use Rattle.ieee.proofs.Naturals.{le_or_lt}
@@ -11,7 +11,7 @@ use Rattle.limits.specs.Limits.{too_large, other_length, too_small}
 use Rattle.window.specs.declared.WindowStats.{WindowStats}
 use Rattle.answer.specs.declared.Answer.{Answer}
 use Rattle.noise.specs.Refusals.{first_of, refusal_of}
-use Rattle.noise.specs.Call.{refused, measured, noise_of}
+use Rattle.noise.specs.Call.{refused, measured}
 use Rattle.noise.specs.Demand1.{deciding, Taken, Demand1, Meets, NoiseMeets}
 use Rattle.noise.proofs.Causes.{refusal_most}
 use Rattle.noise.proofs.Numbers.{Ends, one_of, measured_ends}

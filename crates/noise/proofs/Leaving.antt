@@ -12,7 +12,7 @@ use Rattle.grid.specs.Needed.{needed_of}
 use Rattle.answer.specs.declared.Answer.{Answer}
 use Rattle.noise.specs.declared.Verdict.{Verdict}
 use Rattle.noise.specs.Refusals.{short_of, refusal_of}
-use Rattle.noise.specs.Call.{refused, measured, answer_by, noise_of, ran, cleared_ints, cleared_floats, left_ints, left_floats}
+use Rattle.noise.specs.Call.{refused, measured, noise_of, ran, cleared_ints, cleared_floats, left_ints, left_floats}
 use Rattle.noise.specs.Steps.{verdict_by, verdict_of, Ready}
 use Rattle.noise.proofs.Causes.{accepted}
 use Rattle.noise.proofs.Numbers.{measured_ran, refusal_stays}

@@ -1,20 +1,16 @@
 -- The numbers of a call whose passes run are 0, 5, 6 and 7, each exactly for its cause; those of a refusal are 1 to 4.
-use mathlib.Core.Path.{◌≡◌, refl, sym, ap, ◌∙◌, subst}
+use mathlib.Core.Path.{◌≡◌, refl, sym, ap, subst}
 use mathlib.Core.Bool.{Bool, true, false, cond}
 use mathlib.Core.Logic.{◌⊎◌, inl, inr}
 use mathlib.Core.List.{List}
-use Prim.Native.Nat.{ℕ, ◌+◌, ◌*◌, ◌≤◌, ◌<◌}
+use Prim.Native.Nat.{ℕ, ◌+◌, ◌≤◌, ◌<◌}
 use native.Mathlib.Omega.{arith}
-use lib.Dec.{eqb}
-use lib.ListN.{length}
-use lib.Ieee.{Float}
 use borrow.Author.Tests.{ne_eqb}
 use Rattle.ieee.proofs.Naturals.{le_or_lt}
 use Rattle.ieee.specs.Numbers.{plus_zero}
 use Rattle.window.specs.declared.WindowStats.{WindowStats}
 use Rattle.grid.specs.Needed.{first_w, second_w}
 use Rattle.measure.specs.Figures.{figures_of}
-use Rattle.band.specs.Bands.{sample_of}
 use Rattle.milli.specs.Thousandths.{milli_of}
 use Rattle.joining.proofs.Reasons.{Exactly}
 use Rattle.answer.specs.declared.Answer.{Answer}

@@ -1,4 +1,6 @@
 // The noise call: refusals, one pass or two, the answer, and work memory cleared.
+#![tactic(auto)]
+
 ghost use Rattle.std.specs.Prelude.{◌≡◌, length};
 ghost use Rattle.noise.specs.Refusals.{short_of};
 ghost use Rattle.noise.specs.Answers.{ending_in};

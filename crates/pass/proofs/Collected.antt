@@ -1,16 +1,13 @@
 -- What the rounds find in the f32 slice, where the figures of a pass were laid.
-use mathlib.Core.Path.{◌≡◌, sym, ap, ◌∙◌}
-use mathlib.Core.List.{List, ◌++◌, append_assoc}
-use Prim.Native.Nat.{ℕ, ◌+◌, ◌-◌, ◌*◌, ◌≤◌}
+use mathlib.Core.Path.{◌≡◌, ap, ◌∙◌}
+use mathlib.Core.List.{List}
+use Prim.Native.Nat.{ℕ, ◌+◌, ◌≤◌}
 use native.Mathlib.Omega.{arith}
-use lib.ListN.{length, take, drop, length-append, length-take, length-drop, length-map}
-use lib.Seq.{drop_at}
-use lib.IntN.{ℤ}
+use lib.ListN.{length, take, drop}
 use lib.Ieee.{Float}
 use Rattle.window.specs.declared.WindowStats.{WindowStats}
-use Rattle.measure.specs.Columns.{column_count, columns, columns_in}
-use Rattle.band.specs.Bands.{banded, kept_of, sample_of}
-use Rattle.sample.specs.Laid.{gate32, square32, gates_of, squares_of, laid_in}
+use Rattle.band.specs.Bands.{kept_of, sample_of}
+use Rattle.sample.specs.Laid.{gates_of, squares_of, laid_in}
 use Rattle.band.specs.declared.Sample.{Sample}
 use Rattle.band.proofs.Counting.{counts, kept_most}
 use Rattle.sample.proofs.Scattering.{kept_by_lem}
@@ -18,7 +15,7 @@ use Rattle.sample.proofs.Parts.{gates_first, squares_next}
 use Rattle.joining.specs.Joining.{noise}
 use Rattle.joining.specs.declared.Noise.{Noise}
 use Rattle.pass.specs.declared.Pass.{Pass}
-use Rattle.pass.specs.Memory.{ints_for, floats_for}
+use Rattle.pass.specs.Memory.{floats_for}
 use Rattle.pass.specs.Pass.{kept_by, starts_by, noise_in, packed, pass_of}
 use Rattle.pass.specs.Steps.{gates_in, squares_in, Room}
 

@@ -1,4 +1,3 @@
 pub mod Bounds
-pub mod Bands
 pub mod Collected
 pub mod Reasons

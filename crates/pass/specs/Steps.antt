@@ -1,5 +1,5 @@
 -- What only the code's steps need: the parts of the f32 slice that the rounds take, and numbers that fit 32 bits.
-use Rattle.std.specs.Prelude.{List, ℕ, ◌+◌, ◌*◌, ◌^◌, ◌≤◌, ◌<◌, length, take, drop, Float}
+use Rattle.std.specs.Prelude.{List, ◌+◌, ◌*◌, ◌^◌, ◌≤◌, ◌<◌, length, take, drop, Float}
 use Rattle.band.specs.declared.Sample.{Sample}
 use Rattle.joining.specs.declared.Noise.{Noise}
 use Rattle.pass.specs.Pass.{kept_by}

@@ -1,4 +1,6 @@
 // One pass: windows sampled, split into bands, and their noise level found.
+#![tactic(auto)]
+
 ghost use Rattle.std.specs.Prelude.{◌≡◌};
 ghost use Rattle.measure.specs.Figures.{figures_of};
 ghost use Rattle.measure.specs.Columns.{columns_in};
@@ -12,7 +14,7 @@ use band::Sample;
 use joining::{Noise, Sigma};
 
 // What one pass finds: a number, sigma where it is 0, the rounds evaluated, and how many windows the bands have and the rails.
-#[derive(Drop)]
+#[derive(Clone, Copy)]
 pub struct Pass {
     pub number: u32,
     pub sigma: f32,

@@ -1,10 +1,9 @@
 -- A run of digits read one after the other: what is left of the run is what the loop has yet to read.
-use mathlib.Core.Path.{◌≡◌, refl, sym, ap, ◌∙◌, subst}
+use mathlib.Core.Path.{◌≡◌, refl, sym, ap, ◌∙◌}
 use mathlib.Core.Bool.{Bool, true, false, cond, not, ◌&&◌, and-false, true≢false}
 use mathlib.Core.List.{List, [], ◌∷◌}
-use Prim.Native.Nat.{ℕ, suc, ◌+◌, ◌*◌, ◌-◌, ◌^◌, ◌≤◌, ◌<◌}
+use Prim.Native.Nat.{ℕ, ◌+◌, ◌-◌, ◌^◌, ◌≤◌, ◌<◌}
 use native.Mathlib.Omega.{arith}
-use native.Mathlib.Nat.{pow-le-pow_right}
 use native.Mathlib.Numerals.{add-one}
 use lib.Dec.{ltb, leb, eqb}
 use lib.ListN.{length, get_or, drop, get_or-eq_default}
@@ -82,44 +81,6 @@ pub record Run (file : List ℕ) (at k n : ℕ) : Type 0 where
   pub count : (k - at) + length (digits_of (drop k file)) ≡ length (digits_of (drop at file))
   pub past : past_digits (drop k file) ≡ past_digits (drop at file)
   pub value : number_after n (digits_of (drop k file)) ≡ number_in (digits_of (drop at file))
-
-pub run_start : (file : List ℕ) (at : ℕ) → at ≤ length file → Run file at at 0
-run_start file at h =
-    record { low = omega arith; high = h; few = omega arith; small = one (at - at) (omega arith); count = omega arith; past = refl; value = refl }
-  where
-    one : (z : ℕ) → z ≡ 0 → 0 < 10 ^ z
-    one z e = rw e (omega arith)
-
-pub run_room : {file : List ℕ} {at k n : ℕ} → Run file at k n → (k - at ≡ 5 → ⊥) → n ≤ 9999
-run_room {file} {at} {k} {n} r h = go (10 ^ (k - at)) (pow-le-pow_right {n = 10} (omega arith) {i = k - at} {j = 4} (omega (arith, r.few, r.low, h))) r.small
-  where
-    go : (p : ℕ) → p ≤ 10 ^ 4 → n < p → n ≤ 9999
-    go p a b = omega arith
-
-pub run_step : {file : List ℕ} {at k n : ℕ} (b : ℕ) → Run file at k n → is_decimal (get_or file k 0) ≡ true → (k - at ≡ 5 → ⊥) → b ≡ get_or file k 0
-    → Run file at (k + 1) (n * 10 + (b - 48))
-run_step {file} {at} {k} {n} b r d h e =
-    record {
-      low = omega (arith, r.low);
-      high = omega (arith, in_file file k d);
-      few = omega (arith, r.few, r.low, h);
-      small = subst (λ (z : ℕ). n * 10 + (b - 48) < 10 ^ z) {x = suc (k - at)} {y = k + 1 - at} (omega (arith, r.low)) (grown (10 ^ (k - at)) (10 ^ suc (k - at)) (tens (k - at)) r.small);
-      count = omega (arith, r.count, r.low, ap length digits);
-      past = sym (ap past_digits rest ∙ past_on (get_or file k 0) (drop (k + 1) file) d) ∙ r.past;
-      value = sym (ap (number_after n) digits ∙ ap (λ (x : ℕ). number_after (n * 10 + (x - 48)) (digits_of (drop (k + 1) file))) (sym e)) ∙ r.value;
-    }
-  where
-    rest : drop k file ≡ get_or file k 0 ∷ drop (k + 1) file
-    rest = next file k (in_file file k d)
-
-    digits : digits_of (drop k file) ≡ get_or file k 0 ∷ digits_of (drop (k + 1) file)
-    digits = ap digits_of rest ∙ digit_on (get_or file k 0) (drop (k + 1) file) d
-
-    tens : (z : ℕ) → 10 ^ suc z ≡ 10 * 10 ^ z
-    tens z = omega arith
-
-    grown : (p q : ℕ) → q ≡ 10 * p → n < p → n * 10 + (b - 48) < q
-    grown p q t s = omega (arith, digit_range (get_or file k 0) d)
 
 module _ {file : List ℕ} {at k n : ℕ} (r : Run file at k n) (d : is_decimal (get_or file k 0) ≡ false) where
   over : is_decimal (get_or (drop k file) 0 0) ≡ false

@@ -1,13 +1,13 @@
 -- The reading step by step: the mark, and each number with its whitespace byte.
-use mathlib.Core.Path.{◌≡◌, refl, sym, ap, ◌∙◌, subst}
-use mathlib.Core.Bool.{Bool, true, false, cond, ◌&&◌, and-false, true≢false}
+use mathlib.Core.Path.{◌≡◌, refl, sym, ap, ◌∙◌}
+use mathlib.Core.Bool.{Bool, true, false, cond, ◌&&◌}
 use mathlib.Core.List.{List, [], ◌∷◌}
-use Prim.Native.Nat.{ℕ, ◌+◌, ◌-◌, ◌≤◌, ◌<◌}
+use Prim.Native.Nat.{ℕ, ◌+◌, ◌≤◌, ◌<◌}
 use native.Mathlib.Omega.{arith}
 use lib.Dec.{eqb}
 use lib.ListN.{length, get_or, drop, length-drop}
 use Rattle.pgm.specs.declared.Found.{Found}
-use Rattle.pgm.specs.declared.Found.TheVariants.{Number, Nothing}
+use Rattle.pgm.specs.declared.Found.TheVariants.{Number}
 use Rattle.pgm.specs.declared.Head.TheVariants.{Numbers, Missing}
 use Rattle.pgm.specs.Read.{Opening, split, none, is_white, take_byte, take_white, take_number, take_field, header_of, head_by, head_of}
 use Rattle.pgm.specs.Found.{is_marked, onward, InFile}
@@ -33,9 +33,6 @@ abbrev pub Lost : List ℕ → ℕ → Type 0
 Lost file at = (go : ℕ → List ℕ → Opening) → take_field (drop at file) go ≡ none
 
 module _ (file : List ℕ) (at : ℕ) (found : Found) (goes_on : (go : ℕ → List ℕ → Opening) → take_number (drop at file) go ≡ onward file found go) (in-it : InFile file found) where
-  pub field_lost : found ≡ Nothing → Lost file at × Unit {0}
-  field_lost e = (λ go. goes_on (λ n l. take_white l (go n)) ∙ ap (λ (f : Found). onward file f (λ n l. take_white l (go n))) e, tt)
-
   module _ (n end : ℕ) (e : found ≡ Number n end) where
     to_end : (go : ℕ → List ℕ → Opening) → take_field (drop at file) go ≡ take_white (drop end file) (go n)
     to_end go = goes_on (λ n l. take_white l (go n)) ∙ ap (λ (f : Found). onward file f (λ n l. take_white l (go n))) e
@@ -49,16 +46,6 @@ module _ (file : List ℕ) (at : ℕ) (found : Found) (goes_on : (go : ℕ → L
     pub field_ends : is_white (get_or file end 0) ≡ false → Lost file at × Unit {0}
     field_ends w = (λ go. to_end go ∙ white_off (drop end file) (go n) (ap is_white (at_front file end) ∙ w), tt)
 
--- what the code knows of a found field
-pub goes : (file : List ℕ) (at : ℕ) (found : Found) (n after : ℕ) → ((go : ℕ → List ℕ → Opening) → take_field (drop at file) go ≡ onward file found go) → found ≡ Number n after → Goes file at n after
-goes file at found n after q e go = q go ∙ ap (λ (f : Found). onward file f go) e
-
-pub lost : (file : List ℕ) (at : ℕ) (found : Found) → ((go : ℕ → List ℕ → Opening) → take_field (drop at file) go ≡ onward file found go) → found ≡ Nothing → Lost file at
-lost file at found q e go = q go ∙ ap (λ (f : Found). onward file f go) e
-
-pub bounds : (file : List ℕ) (found : Found) (n after : ℕ) → InFile file found → found ≡ Number n after → after ≤ length file
-bounds file found n after b e = subst (λ (f : Found). InFile file f) e b
-
 -- the mark
 three : (p q r : Bool) (x : Opening) → cond p (cond q (cond r x none) none) none ≡ cond (p && (q && r)) x none
 three true true r x = refl
@@ -71,12 +58,6 @@ marked [] go = refl
 marked (x ∷ []) go = three (eqb x 80) false false (go [])
 marked (x ∷ y ∷ []) go = three (eqb x 80) (eqb y 53) false (go [])
 marked (x ∷ y ∷ z ∷ l) go = three (eqb x 80) (eqb y 53) (is_white z) (go l)
-
-pub marked_long : (file : List ℕ) → is_marked file ≡ true → 3 ≤ length file
-marked_long [] e = absurd (true≢false (sym e))
-marked_long (x ∷ []) e = absurd (true≢false (sym e ∙ and-false (eqb x 80)))
-marked_long (x ∷ y ∷ []) e = absurd (true≢false (sym e ∙ ap (λ (t : Bool). eqb x 80 && t) (and-false (eqb y 53)) ∙ and-false (eqb x 80)))
-marked_long (x ∷ y ∷ z ∷ l) e = omega arith
 
 module _ (file : List ℕ) where
   abbrev from_maximum : ℕ → ℕ → ℕ → List ℕ → Opening

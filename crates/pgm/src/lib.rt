@@ -1,4 +1,6 @@
 // Grey files from the camera tool: a subset of binary PGM.
+#![tactic(auto)]
+
 ghost use Rattle.std.specs.Prelude.{◌≡◌, List, ℕ, ◌≤◌, length, get_or, drop};
 ghost use Rattle.pgm.specs.Read.{Opening, is_white, is_decimal, take_number, take_field, head_of, front_read, read_of, raster_of};
 ghost use Rattle.pgm.specs.Found.{is_marked, onward, InFile};

@@ -1,28 +1,27 @@
 // `pgmnoise`: a small grey file on standard input, its noise in two lines on standard output; on standard error why there is no
 // figure, and what could not be read or written.
-use libc::{STDERR_FILENO, STDIN_FILENO, STDOUT_FILENO};
+#![tactic(auto)]
 
-fn main() {
-    if os::arg_count() > 1 {
-        io::write_all(
-            STDERR_FILENO,
-            b"pgmnoise: it takes no words and reads a grey file from standard input: pgmnoise <FILE\n",
+use std::io::Print;
+
+fn main(rt: HostRuntime) {
+    if streams::has_words(&rt) {
+        let _ = eprintln!(rt;
+            "pgmnoise: it takes no words and reads a grey file from standard input: pgmnoise <FILE"
         );
     }
     let mut input = grey::input_room();
-    let before = os::errno();
-    let n = io::read_full(STDIN_FILENO, &mut input);
-    // A read that fails sets errno; one that ends the input does not.
-    if os::errno() != before {
-        os::fail(b"pgmnoise: standard input");
+    let filled = streams::read_full(&mut rt.stdin(), &mut input);
+    if let Some(why) = filled.failed {
+        streams::complain(&rt, "pgmnoise: standard input", why);
     }
     let mut out = lid_bytes::report_room();
     let mut remark = grey::remark_room();
-    let lengths: lid::Lengths = grey::pgmnoise(&input[..n], &mut out, &mut remark);
+    let lengths: lid::Lengths = grey::pgmnoise(&input[..filled.count], &mut out, &mut remark);
     let written = lengths.output;
     let said = lengths.remark;
-    if !io::write_all(STDOUT_FILENO, &out[..written]) {
-        os::fail(b"pgmnoise: standard output");
+    if let Err(why) = rt.write_all(&out[..written]) {
+        streams::complain(&rt, "pgmnoise: standard output", why);
     }
-    io::write_all(STDERR_FILENO, &remark[..said]);
+    let _ = rt.stderr().write_all(&remark[..said]);
 }

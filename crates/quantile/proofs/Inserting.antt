@@ -2,18 +2,18 @@
 use mathlib.Core.Path.{◌≡◌, refl, sym, ap, ◌∙◌, subst}
 use mathlib.Core.Bool.{true, false}
 use mathlib.Core.List.{List}
-use mathlib.Core.Logic.{⊎_elim, inl, inr}
+use mathlib.Core.Logic.{inl, inr}
 use Prim.Native.Nat.{ℕ, zero, suc, ◌+◌, ◌-◌, ◌*◌, ◌/◌, ◌≤◌, ◌<◌, min}
 use native.Mathlib.Omega.{arith}
 use native.Mathlib.Numerals.{add-one}
-use native.Mathlib.Nat.{le_antisymm, eq-or-lt_of_le, lt_of_mul-lt-mul_right, le-div_iff_mul-le, div-lt_iff_lt-mul}
+use native.Mathlib.Nat.{le_antisymm, le-div_iff_mul-le, div-lt_iff_lt-mul}
 use lib.ListN.{length, set, take, length-set, length-take, replicate, length-replicate, get_or-replicate, get_or-eq_default}
 use lib.Seq.{get_or-set_same, get_or-set_other, get_or-take, ext_get_or}
 use lib.Ieee.{Float, nan, Format, binary32, binary64, of_bits, div, is_nan}
 use Rattle.ieee.specs.Order.{total_less}
 use Rattle.laws.proofs.Choice.{chosen, passed}
 use Rattle.quantile.specs.Rising.{at, inserted, rising, Rises}
-use Rattle.quantile.specs.Quantile.{stride, taken, quiet}
+use Rattle.quantile.specs.Quantile.{stride, quiet}
 use Rattle.quantile.proofs.Orders.{upto}
 use Rattle.ieee.proofs.Naturals.{trichotomy}
 use Rattle.quantile.proofs.Rises.{first, slot, slot_is, rises_upto, rising_rises, length_inserted}
@@ -57,12 +57,6 @@ first_of N v old new R e g h =
         go k q = omega arith
 
 module _ (N : ℕ) (old : List Float) (v : Float) (R : Rises old) (g : length old ≡ N) where
-  pub slide_start : (j : ℕ) → suc j ≡ N → total_less v (at old j) ≡ true → Sliding N old v j old
-  slide_start j e h = record { low = omega arith; long = g; above = h; done = λ i k m. absurd (no i k m); todo = λ i k. refl }
-    where
-      no : (i : ℕ) → j < i → i < N → ⊥
-      no i k m = omega arith
-
   pub slide_none : (j : ℕ) → suc j ≡ N → total_less v (at old j) ≡ false → old ≡ take N (inserted v old)
   slide_none j e h = first_of N v old old R g g (λ i k. stays v old R j h i (omega arith))
 
@@ -73,26 +67,6 @@ module _ (N : ℕ) (old : List Float) (v : Float) (R : Rises old) (g : length ol
 
     put_other : (x : Float) (i : ℕ) → (i ≡ j → ⊥) → at (set new j x) i ≡ at new i
     put_other x i h = get_or-set_other new j i x nan h
-
-    pub slide_more : 0 < j → {x : Float} → x ≡ at new (j - 1) → total_less v x ≡ true → Sliding N old v (j - 1) (set new j x)
-    slide_more h {x} e t =
-        record {
-          low = omega (arith, s.low);
-          long = length-set new j x ∙ s.long;
-          above = subst (λ (y : Float). total_less v y ≡ true) is t;
-          done = λ i k m. ⊎_elim (λ (q : j ≡ i). subst (λ (y : ℕ). at (set new j x) y ≡ slot v old y) q (put_same x ∙ here)) (λ (q : j < i). put_other x i (omega arith) ∙ s.done i q m) (eq-or-lt_of_le (back i k));
-          todo = λ i k. put_other x i (omega arith) ∙ s.todo i (omega arith);
-        }
-      where
-        is : x ≡ at old (j - 1)
-        is = e ∙ s.todo (j - 1) (omega arith)
-
-        back : (i : ℕ) → j - 1 < i → j ≤ i
-        back i k = omega arith
-
-        here : x ≡ slot v old j
-        here = is ∙ chosen (total_less v (at old (j - 1))) (at old (j - 1)) (first v (at old (suc (j - 1)))) (subst (λ (y : Float). total_less v y ≡ true) is t)
-            ∙ ap (slot v old) (one_more j h)
 
     -- place j takes v
     placed : v ≡ slot v old j → ((i : ℕ) → i < j → at old i ≡ slot v old i) → set new j v ≡ take N (inserted v old)
@@ -183,9 +157,6 @@ module _ {N : ℕ} {f : ℕ → Float} {n k : ℕ} {least : List Float} (h : Hel
       full : (a : ℕ) → a ≡ suc N → min N a ≡ N
       full a q = omega arith
 
-  pub held_end : n ≤ k → (p : ℕ) → p < N → at least p ≡ at (rising f n) p
-  held_end g p l = h.same p l ∙ ap (λ (z : ℕ). at (rising f z) p) (le_antisymm h.low g)
-
 -- ---- quantile: n values taken, the next one at k
 
 pub record Taken (g : List Float) (s : ℕ) (buf : List Float) (n k : ℕ) : Type 0 where
@@ -194,40 +165,9 @@ pub record Taken (g : List Float) (s : ℕ) (buf : List Float) (n k : ℕ) : Typ
   pub last : k < length g + s
   pub same : (i : ℕ) → i < n → at buf i ≡ at g (i * s)
 
-pub taken_start : (g : List Float) (s : ℕ) (buf : List Float) → length buf ≡ 255 → s ≡ stride (length g) → Taken g s buf 0 0
-taken_start g s buf e h = record { long = e; step = omega arith; last = omega arith; same = λ i l. absurd (none i l) }
-  where
-    none : (i : ℕ) → i < 0 → ⊥
-    none i l = omega arith
-
 module _ {g : List Float} {s : ℕ} {buf : List Float} {n k : ℕ} (t : Taken g s buf n k) (e : s ≡ stride (length g)) where
   wide : length g ≤ 255 * s
   wide = omega arith
-
-  pub taken_room : k < length g → n < 255
-  taken_room h = lt_of_mul-lt-mul_right s (go (n * s) t.step)
-    where
-      go : (x : ℕ) → k ≡ x → x < 255 * s
-      go x p = omega (arith, wide)
-
-  pub taken_few : n < 256
-  taken_few = lt_of_mul-lt-mul_right s (go (n * s) t.step)
-    where
-      go : (x : ℕ) → k ≡ x → x < 256 * s
-      go x p = omega (arith, wide, t.last)
-
-  pub taken_more : k < length g → {v : Float} → v ≡ at g k → Taken g s (set buf n v) (n + 1) (k + s)
-  taken_more h {v} q =
-      record {
-        long = length-set buf n v ∙ t.long;
-        step = omega (arith, t.step);
-        last = omega arith;
-        same = λ j m. ⊎_elim (λ (i : j ≡ n). ap (at (set buf n v)) i ∙ get_or-set_same buf n v nan (omega (arith, t.long, taken_room h)) ∙ q ∙ ap (at g) (t.step ∙ ap (λ (x : ℕ). x * s) (sym i)))
-            (λ (i : j < n). get_or-set_other buf n j v nan (omega arith) ∙ t.same j i) (eq-or-lt_of_le (upto_n j m));
-      }
-    where
-      upto_n : (j : ℕ) → j < n + 1 → j ≤ n
-      upto_n j m = omega arith
 
   -- the count is the rule's
   count_is : length g ≤ k → n ≡ (length g + (s - 1)) / s

@@ -1,13 +1,13 @@
 -- `total_less` is a strict order of all floats, and total on those of one format. A float stands in one of five ranks,
 -- and within a rank by its size, of negative ones the other way round. Assumes nothing.
 use mathlib.Core.Path.{◌≡◌, refl, sym, ap, ◌∙◌, subst}
-use mathlib.Core.Bool.{Bool, true, false, not, ◌&&◌, ◌||◌, cond, true≢false}
+use mathlib.Core.Bool.{Bool, true, false, ◌&&◌, ◌||◌, cond, true≢false}
 use Prim.Native.Nat.{ℕ, zero, suc, ◌+◌, ◌-◌, ◌*◌, ◌/◌, ◌^◌, ◌≤◌, ◌<◌}
 use mathlib.Core.Logic.{◌⊎◌, inl, inr}
 use native.Mathlib.Omega.{arith}
 use native.Mathlib.Nat.{le_antisymm, mul_right_comm, lt_irrefl}
 use lib.Dec.{T, ltb, eqb}
-use lib.Ieee.{Float, nan, inf, fin, Format, up, down, low, lt, eq, is_nan, fits, to_bits, of_bits, below, level, size, prec, hid, ones, top}
+use lib.Ieee.{Float, nan, inf, fin, Format, up, down, low, lt, eq, is_nan, fits, to_bits, of_bits, level, size, prec, hid, ones, top}
 use lib.Ieee.Bits.{of_bits-to_bits}
 use lib.Ieee.Fits.{down_pos}
 use lib.Ieee.Nearest.{div_same}

@@ -1,4 +1,6 @@
 // The quiet level of a band's gates, or of all: noise.rs, `quantile` at 1/16.
+#![tactic(auto)]
+
 ghost use Rattle.std.specs.Prelude.{◌≡◌, ◌+◌, ◌/◌, ◌≤◌, ◌<◌, length, take};
 ghost use Rattle.quantile.specs.Rising.{at, inserted, rising, Rises};
 ghost use Rattle.quantile.specs.Quantile.{quiet};

@@ -1,7 +1,7 @@
 -- The ranges are what the machine's comparisons with their limits say: a limit is q * 2 ^ k. Assumes nothing.
 use mathlib.Core.Path.{◌≡◌, refl, sym, ap, ◌∙◌}
 use mathlib.Core.Bool.{Bool, true, false, ◌&&◌}
-use Prim.Native.Nat.{ℕ, zero, suc, ◌*◌, ◌^◌, ◌≤◌, ◌<◌}
+use Prim.Native.Nat.{ℕ, zero, suc, ◌*◌, ◌^◌, ◌<◌}
 use native.Mathlib.Nat.{mul-one, zero-mul, mul-le-mul_left}
 use native.Mathlib.Omega.{arith}
 use lib.Dec.{leb, eqb, leb-zero, eqb-suc-zero}

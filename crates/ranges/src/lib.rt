@@ -1,4 +1,6 @@
 // Whether floats are in their ranges.
+#![tactic(auto)]
+
 ghost use Rattle.std.specs.Prelude.{◌≡◌};
 ghost use Rattle.ieee.specs.Order.{finite};
 ghost use Rattle.refine.specs.Covariance.{all_finite};

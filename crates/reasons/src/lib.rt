@@ -1,4 +1,6 @@
 // The sentences of the numbers that the desk reads.
+#![tactic(auto)]
+
 ghost use Rattle.std.specs.Prelude.{◌≡◌, ◌+◌, ◌≤◌, length};
 ghost use Rattle.text.specs.Text.{as_bytes};
 ghost use Rattle.text.specs.Placed.{LaidTo};

@@ -7,7 +7,7 @@ use lib.Dec.{leb, eqb}
 use borrow.Author.Tests.{not-true, leb-true, le-leb, eq-eqb, eqb-true}
 use Rattle.laws.proofs.Refusing.{and, and_left, and_right}
 use Rattle.limits.specs.Limits.{too_large, too_small}
-use Rattle.grid.specs.Grid.{Sides, total_of}
+use Rattle.grid.specs.Grid.{total_of}
 use Rattle.grid.specs.Needed.{first_w, second_w}
 use Rattle.grid.proofs.Memory.{sides_taken}
 use Rattle.record.specs.declared.Record.{Record}
@@ -103,7 +103,7 @@ allowed_iff r = (there, back)
           sides = (sides_taken r.width r.height).1 (not-true large (and_left (not large) _ e), not-true small (and_left (not small) _ a));
           answer = (stored_is r.answer).0 (and_left (stored_answer r.answer) _ b);
           figure = s.0;
-          no_figure_lem = s.1;
+          no_figure = s.1;
           counts = (counts_are r.width r.height (band_sum r + r.rail)).0 (and_right sigma counts c);
         }
 
@@ -114,7 +114,7 @@ allowed_iff r = (there, back)
           s.0,
           s.1,
           (stored_is r.answer).1 a.answer,
-          (sigma_is r.answer r.sigma (band_sum r)).1 (a.figure, a.no_figure_lem),
+          (sigma_is r.answer r.sigma (band_sum r)).1 (a.figure, a.no_figure),
           (counts_are r.width r.height (band_sum r + r.rail)).1 a.counts,
         ) refl
 
@@ -131,9 +131,6 @@ module _ (r : Record) where
     is_small s = rw (l, s) refl
 
     module _ (s : too_small r.width r.height ≡ false) where
-      pub sides_are : Sides r.width r.height
-      sides_are = (sides_taken r.width r.height).1 (l, s)
-
       pub not_stored : stored_answer r.answer ≡ false → false ≡ allowed r
       unfolding allowed
       not_stored a = rw (l, s, a) refl

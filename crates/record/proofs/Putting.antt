@@ -4,9 +4,9 @@ use mathlib.Core.List.{List, [], ◌∷◌, ◌++◌}
 use Prim.Native.Nat.{ℕ, ◌+◌, ◌≤◌, ◌<◌}
 use native.Mathlib.Numerals.{add-one}
 use native.Mathlib.Omega.{arith}
-use lib.ListN.{length, get_or, take, drop, set, length-set, drop_of_length-le}
+use lib.ListN.{length, get_or, take, drop, set, drop_of_length-le}
 use lib.Seq.{drop-cons}
-use Rattle.laws.proofs.Fill.{Writing, start, put_many, end}
+use Rattle.laws.proofs.Fill.{Writing, put_many, end}
 use Rattle.laws.specs.Lists.{laid}
 use Rattle.little_endian.specs.Bytes.{bytes_of}
 use Rattle.little_endian.proofs.Laws.{length_bytes}
@@ -23,9 +23,6 @@ pub record Laying (ns xs out₀ : List ℕ) (at k : ℕ) (out : List ℕ) : Type
   pub writing : Writing (take 2 out₀ ++ bytes_in ns xs) out₀ at out (bytes_in (drop k ns) (drop k xs))
 
 module _ {ns xs out₀ : List ℕ} where
-  pub lay_start : Laying ns xs out₀ 2 0 out₀
-  lay_start = record { low = omega arith; long = refl; left = refl; writing = start out₀ 2 (bytes_in ns xs) }
-
   module _ {at k n : ℕ} {out : List ℕ} (i : Laying ns xs out₀ at k out) (h : k < length ns) (g : k < length xs) (en : n ≡ get_or ns k 0) where
     left_more : at + n + byte_sum (drop (k + 1) ns) ≡ 2 + byte_sum ns
     left_more = omega (arith, i.left, ap byte_sum (next ns k h))
@@ -59,9 +56,6 @@ module _ {ns xs out₀ : List ℕ} where
       whole = omega (arith, i.left, ap byte_sum none)
 
 -- ---- two bytes over the first two
-
-pub second_place : (l : List ℕ) (v : ℕ) → 35 ≤ length l → 1 < length (set l 0 v)
-second_place l v h = omega (arith, length-set l 0 v)
 
 pub over_two : (l p r : List ℕ) (a b : ℕ) → 2 ≤ length l → set (set ((take 2 l ++ p) ++ r) 0 a) 1 b ≡ (a ∷ b ∷ p) ++ r
 over_two [] p r a b h = absurd (none h)

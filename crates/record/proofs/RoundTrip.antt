@@ -15,7 +15,7 @@ use Rattle.record.specs.declared.Record.{Record}
 use Rattle.record.specs.declared.Reading.TheVariants.{Given}
 use Rattle.record.specs.Layout.{bytes_in, numbers_in, Fit}
 use Rattle.record.specs.Rule.{AnswerStored, Allowed, allowed}
-use Rattle.record.specs.Records.{Form, form_nF, size_of, fields_of, record_of, bytes_as, Written, written_as, marked, read_as}
+use Rattle.record.specs.Records.{Form, form_nf, size_of, fields_of, record_of, bytes_as, Written, written_as, marked, read_as}
 use Rattle.record.specs.RoundTrip.{Typed}
 use Rattle.record.proofs.Layouts.{length_laid, numbers_bytes, bytes_numbers, numbers_front}
 use Rattle.record.proofs.Judging.{allowed_iff}
@@ -31,7 +31,7 @@ answer_byte a (inr (inr (inl e))) = omega arith
 answer_byte a (inr (inr (inr e))) = omega arith
 
 -- what the rule takes fits its bytes, so nothing is cut
-pub allowed_fit : (r : Record) → Typed r → Allowed r → Fit form_nF.field_bytes (fields_of r)
+pub allowed_fit : (r : Record) → Typed r → Allowed r → Fit form_nf.field_bytes (fields_of r)
 unfolding Fit
 allowed_fit r t a = (
   t.shot,
@@ -45,18 +45,18 @@ fields_back : (r : Record) → record_of (fields_of r) ≡ r
 fields_back r = refl
 
 -- the record's bytes, whatever follows them
-pub bytes_read : (r : Record) (after : List ℕ) → Fit form_nF.field_bytes (fields_of r) → allowed r ≡ true → read_as form_nF (bytes_as form_nF r ++ after) ≡ Given r
+pub bytes_read : (r : Record) (after : List ℕ) → Fit form_nf.field_bytes (fields_of r) → allowed r ≡ true → read_as form_nf (bytes_as form_nf r ++ after) ≡ Given r
 unfolding bytes_as
 bytes_read r after fit ok =
-    sym (given form_nF (0x4E ∷ 0x46 ∷ (bytes_in form_nF.field_bytes (fields_of r) ++ after))
-    (omega (arith, length-append (bytes_in form_nF.field_bytes (fields_of r)) after, length_laid form_nF.field_bytes (fields_of r) fit)) refl r
-    (sym (ap record_of (numbers_bytes form_nF.field_bytes (fields_of r) after fit) ∙ fields_back r)) ok)
+    sym (given form_nf (0x4E ∷ 0x46 ∷ (bytes_in form_nf.field_bytes (fields_of r) ++ after))
+    (omega (arith, length-append (bytes_in form_nf.field_bytes (fields_of r)) after, length_laid form_nf.field_bytes (fields_of r) fit)) refl r
+    (sym (ap record_of (numbers_bytes form_nf.field_bytes (fields_of r) after fit) ∙ fields_back r)) ok)
 
-pub read_written : (r : Record) (out : List ℕ) → Typed r → (written_as form_nF r out).number ≡ 0 → read_as form_nF (written_as form_nF r out).bytes ≡ Given r
+pub read_written : (r : Record) (out : List ℕ) → Typed r → (written_as form_nf r out).number ≡ 0 → read_as form_nf (written_as form_nf r out).bytes ≡ Given r
 read_written r out t e =
-    let w = write_meets form_nF r out in
+    let w = write_meets form_nf r out in
     let a = (w.taken.0 e).0 in
-    ap (λ (l : List ℕ). read_as form_nF l) (w.changes e) ∙ bytes_read r (drop 35 out) (allowed_fit r t a) ((allowed_iff r).1 a)
+    ap (λ (l : List ℕ). read_as form_nf l) (w.changes e) ∙ bytes_read r (drop 35 out) (allowed_fit r t a) ((allowed_iff r).1 a)
 
 -- ---- write after read
 
@@ -71,27 +71,27 @@ front_two (x ∷ []) a b h p q = absurd (none h)
     none h = omega arith
 front_two (x ∷ y ∷ l) a b h p q = cc
 
-numbers_back : (l : List ℕ) → fields_of (record_of (numbers_in form_nF.field_bytes l)) ≡ numbers_in form_nF.field_bytes l
+numbers_back : (l : List ℕ) → fields_of (record_of (numbers_in form_nf.field_bytes l)) ≡ numbers_in form_nf.field_bytes l
 unfolding numbers_in
 numbers_back l = refl
 
-pub bytes_back : (l : List ℕ) (r : Record) → Bytes l → read_as form_nF l ≡ Given r → bytes_as form_nF r ≡ take 35 l
+pub bytes_back : (l : List ℕ) (r : Record) → Bytes l → read_as form_nf l ≡ Given r → bytes_as form_nf r ≡ take 35 l
 unfolding bytes_as
 bytes_back l r b e =
-    let g = ((read_meets form_nF l).given r).0 e in
-    ap (λ (x : Record). 0x4E ∷ 0x46 ∷ bytes_in form_nF.field_bytes (fields_of x)) g.3
-    ∙ ap (λ (xs : List ℕ). 0x4E ∷ 0x46 ∷ bytes_in form_nF.field_bytes xs) (numbers_back (drop 2 l))
+    let g = ((read_meets form_nf l).given r).0 e in
+    ap (λ (x : Record). 0x4E ∷ 0x46 ∷ bytes_in form_nf.field_bytes (fields_of x)) g.3
+    ∙ ap (λ (xs : List ℕ). 0x4E ∷ 0x46 ∷ bytes_in form_nf.field_bytes xs) (numbers_back (drop 2 l))
     ∙ ap (λ (xs : List ℕ). 0x4E ∷ 0x46 ∷ xs)
-    (bytes_numbers form_nF.field_bytes (drop 2 l) (each_drop (λ n. n < 256) 2 l b) (omega (arith, g.0, length-drop 2 l)))
+    (bytes_numbers form_nf.field_bytes (drop 2 l) (each_drop (λ n. n < 256) 2 l b) (omega (arith, g.0, length-drop 2 l)))
     ∙ ap (λ (xs : List ℕ). xs ++ take 33 (drop 2 l)) (front_two l 0x4E 0x46 (omega (arith, g.0)) g.1.0 g.1.1)
     ∙ sym (take-add 2 33 l)
 
-pub written_read : (l : List ℕ) (r : Record) (out : List ℕ) → Bytes l → read_as form_nF l ≡ Given r → 35 ≤ length out
-    → written_as form_nF r out ≡ record { number = 0; bytes = take 35 l ++ drop 35 out }
+pub written_read : (l : List ℕ) (r : Record) (out : List ℕ) → Bytes l → read_as form_nf l ≡ Given r → 35 ≤ length out
+    → written_as form_nf r out ≡ record { number = 0; bytes = take 35 l ++ drop 35 out }
 written_read l r out b e h =
-    let w = write_meets form_nF r out in
-    let n = w.taken.1 ((((read_meets form_nF l).given r).0 e).2, h) in
-    same (written_as form_nF r out) n (w.changes n ∙ ap (λ (xs : List ℕ). xs ++ drop 35 out) (bytes_back l r b e))
+    let w = write_meets form_nf r out in
+    let n = w.taken.1 ((((read_meets form_nf l).given r).0 e).2, h) in
+    same (written_as form_nf r out) n (w.changes n ∙ ap (λ (xs : List ℕ). xs ++ drop 35 out) (bytes_back l r b e))
   where
     same : (x : Written) {m : ℕ} {k : List ℕ} → x.number ≡ m → x.bytes ≡ k → x ≡ record { number = m; bytes = k }
     same x p q = λ i. record { number = p i; bytes = q i }

@@ -124,7 +124,7 @@ module _ (r : Record) (A : Allowed r) where
   figure_sigma h = sigma_from_zero r.sigma (A.figure h).0
 
   pub no_figure_sigma : (r.answer ≡ 0 → ⊥) → of_bits binary32 r.sigma ≡ plus_zero
-  no_figure_sigma h = ap (of_bits binary32) (A.no_figure_lem h) ∙ zero_is binary32
+  no_figure_sigma h = ap (of_bits binary32) (A.no_figure h) ∙ zero_is binary32
 
 -- ---- worked examples: the rule's test, and what the floats are
 pub thousand : of_bits binary32 0x447A_0000 ≡ f32_of 1000

@@ -5,7 +5,7 @@ use Rattle.grid.specs.Step.{step_of}
 use Rattle.grid.specs.Grid.{places_of}
 use Rattle.record.specs.Layout.{bytes_in, numbers_in}
 use Rattle.record.specs.Rule.{stored_answer, sigma_taken, counts_taken, allowed}
-use Rattle.record.specs.Records.{form_nF, size_of, bytes_as, written_as, read_as}
+use Rattle.record.specs.Records.{form_nf, size_of, bytes_as, written_as, read_as}
 use Rattle.record.specs.declared.Record.{Record}
 use Rattle.record.specs.declared.Reading.TheVariants.{Given, Refused}
 
@@ -34,10 +34,10 @@ quiet_bytes =
     0x4E ∷ 0x46 ∷ 1 ∷ 2 ∷ 3 ∷ 4 ∷ 26 ∷ 0 ∷ 27 ∷ 0 ∷ 0 ∷ 0 ∷ 0 ∷ 0 ∷ 0x40
     ∷ 1 ∷ 2 ∷ 0 ∷ 0 ∷ 3 ∷ 0 ∷ 0 ∷ 0 ∷ 4 ∷ 0 ∷ 0 ∷ 0 ∷ 5 ∷ 0 ∷ 0 ∷ 0 ∷ 27 ∷ 0 ∷ 0 ∷ 0 ∷ []
 
-pub thirty_five : size_of form_nF ≡ 35
+pub thirty_five : size_of form_nf ≡ 35
 thirty_five = refl
 
-pub worked_bytes : bytes_as form_nF quiet ≡ quiet_bytes
+pub worked_bytes : bytes_as form_nf quiet ≡ quiet_bytes
 unfolding bytes_as bytes_in bytes_of
 worked_bytes = refl
 
@@ -95,27 +95,27 @@ sides_not_exchanged = (refl, refl)
 -- ---- writing
 
 -- one byte beyond stays
-pub writes : written_as form_nF quiet (replicate 36 9) ≡ record { number = 0; bytes = quiet_bytes ++ (9 ∷ []) }
+pub writes : written_as form_nf quiet (replicate 36 9) ≡ record { number = 0; bytes = quiet_bytes ++ (9 ∷ []) }
 unfolding written_as bytes_as bytes_in bytes_of allowed stored_answer sigma_taken counts_taken places_of step_of
 writes = refl
 
 -- 18; and 19 before it
-pub refused_writes : (written_as form_nF quiet (replicate 34 9) ≡ record { number = 18; bytes = replicate 34 9 })
-    × (written_as form_nF (sided 3 4 0) (replicate 34 9) ≡ record { number = 19; bytes = replicate 34 9 })
-    × (written_as form_nF (sided 3 4 0) (replicate 36 9) ≡ record { number = 19; bytes = replicate 36 9 })
+pub refused_writes : (written_as form_nf quiet (replicate 34 9) ≡ record { number = 18; bytes = replicate 34 9 })
+    × (written_as form_nf (sided 3 4 0) (replicate 34 9) ≡ record { number = 19; bytes = replicate 34 9 })
+    × (written_as form_nf (sided 3 4 0) (replicate 36 9) ≡ record { number = 19; bytes = replicate 36 9 })
 unfolding written_as allowed stored_answer sigma_taken counts_taken places_of step_of
 refused_writes = (refl, refl, refl)
 
 -- ---- reading
 
-pub reads : read_as form_nF (quiet_bytes ++ (9 ∷ 9 ∷ [])) ≡ Given quiet
+pub reads : read_as form_nf (quiet_bytes ++ (9 ∷ 9 ∷ [])) ≡ Given quiet
 unfolding read_as numbers_in value_of allowed stored_answer sigma_taken counts_taken places_of step_of
 reads = refl
 
 -- 18, then 17 by either byte of the mark, then 19
-pub refused_reads : (read_as form_nF [] ≡ Refused 18) × (read_as form_nF (replicate 34 0) ≡ Refused 18)
-    × (read_as form_nF (replicate 35 0) ≡ Refused 17)
-    × (read_as form_nF (0x46 ∷ 0x4E ∷ replicate 33 0) ≡ Refused 17) × (read_as form_nF (0x4E ∷ 0x47 ∷ replicate 33 0) ≡ Refused 17)
-    × (read_as form_nF (0x4E ∷ 0x46 ∷ replicate 33 0) ≡ Refused 19)
+pub refused_reads : (read_as form_nf [] ≡ Refused 18) × (read_as form_nf (replicate 34 0) ≡ Refused 18)
+    × (read_as form_nf (replicate 35 0) ≡ Refused 17)
+    × (read_as form_nf (0x46 ∷ 0x4E ∷ replicate 33 0) ≡ Refused 17) × (read_as form_nf (0x4E ∷ 0x47 ∷ replicate 33 0) ≡ Refused 17)
+    × (read_as form_nf (0x4E ∷ 0x46 ∷ replicate 33 0) ≡ Refused 19)
 unfolding read_as numbers_in value_of allowed
 refused_reads = (refl, refl, refl, refl, refl, refl)

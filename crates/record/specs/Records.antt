@@ -14,8 +14,8 @@ pub record Form : Type 0 where
   pub field_bytes : List ℕ
 
 -- mark 4E 46, which is NF in ASCII
-abbrev pub form_nF : Form
-form_nF = record { letter = 0x46; field_bytes = 4 ∷ 2 ∷ 2 ∷ 1 ∷ 4 ∷ 4 ∷ 4 ∷ 4 ∷ 4 ∷ 4 ∷ [] }
+abbrev pub form_nf : Form
+form_nf = record { letter = 0x46; field_bytes = 4 ∷ 2 ∷ 2 ∷ 1 ∷ 4 ∷ 4 ∷ 4 ∷ 4 ∷ 4 ∷ 4 ∷ [] }
 
 abbrev pub size_of : Form → ℕ
 size_of f = 2 + byte_sum f.field_bytes

@@ -25,7 +25,7 @@ pub record Allowed (r : Record) : Type 0 where
   pub answer : AnswerStored r.answer
   -- a figure: sigma from 0 to 1,000 without a minus sign, and 512 windows kept
   pub figure : r.answer ≡ 0 → (r.sigma ≤ thousand_bits) × (512 ≤ band_sum r)
-  pub no_figure_lem : (r.answer ≡ 0 → ⊥) → r.sigma ≡ 0
+  pub no_figure : (r.answer ≡ 0 → ⊥) → r.sigma ≡ 0
   -- the windows kept and dropped are all those of one of the two passes
   pub counts : (band_sum r + r.rail ≡ total_of r.width r.height first_w)
       ⊎ (band_sum r + r.rail ≡ total_of r.width r.height second_w)

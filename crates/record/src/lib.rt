@@ -1,14 +1,16 @@
 // The record of a shot: 35 bytes, written into a lent slice and read from one.
+#![tactic(auto)]
+
 ghost use Rattle.std.specs.Prelude.{◌≡◌, ◌∷◌, ◌++◌, ◌+◌, ◌≤◌, ◌<◌, ◌^◌, length, get_or, take, drop};
 ghost use Rattle.std.proofs.Math.Seq.{slice};
 ghost use Rattle.little_endian.specs.Bytes.{value_of};
 ghost use Rattle.grid.specs.Grid.{Sides};
 ghost use Rattle.record.specs.Layout.{bytes_in};
 ghost use Rattle.record.specs.Rule.{band_sum, stored_answer, sigma_taken, counts_taken, allowed as is_allowed};
-ghost use Rattle.record.specs.Records.{form_nF, fields_of, bytes_as, written_as, record_in, read_as, marked as is_marked};
+ghost use Rattle.record.specs.Records.{form_nf, fields_of, bytes_as, written_as, record_in, read_as, marked as is_marked};
 
 // What is kept of a shot.
-#[derive(Drop)]
+#[derive(Clone, Copy)]
 pub struct Record {
     pub shot: u32,
     pub width: usize,
@@ -120,7 +122,7 @@ fn get_side(bytes: &[u8], at: usize) -> usize
 
 fn marked(bytes: &[u8]) -> bool
     requires { 2 ≤ length bytes.now }
-    ensures { result ≡ is_marked form_nF bytes.now }
+    ensures { result ≡ is_marked form_nf bytes.now }
 {
     if bytes[0] != 0x4e {
         return false;
@@ -131,7 +133,7 @@ fn marked(bytes: &[u8]) -> bool
 // The record behind the mark, not judged.
 fn record_in(bytes: &[u8]) -> Record
     requires { 35 ≤ length bytes.now }
-    ensures { result ≡ record_in form_nF bytes.now }
+    ensures { result ≡ record_in form_nf bytes.now }
 {
     Record {
         shot: get(bytes, 2, 4),
@@ -149,7 +151,7 @@ fn record_in(bytes: &[u8]) -> Record
 
 // The record at the front: 18, then 17, then 19. Bytes past 35 are not read.
 pub fn read(bytes: &[u8]) -> Reading
-    ensures { result ≡ read_as form_nF bytes.now }
+    ensures { result ≡ read_as form_nf bytes.now }
 {
     if bytes.len() < 35 {
         return Reading::Refused(18);
@@ -171,7 +173,7 @@ const FIELD_BYTES: [usize; 10] = [4, 2, 2, 1, 4, 4, 4, 4, 4, 4];
 // How many bytes field k takes.
 fn field_bytes(k: usize) -> usize
     requires { k < 10 }
-    ensures { result ≡ get_or form_nF.field_bytes k 0 }
+    ensures { result ≡ get_or form_nf.field_bytes k 0 }
 {
     FIELD_BYTES[k]
 }
@@ -198,7 +200,7 @@ pub fn fields(r: Record) -> [u64; 10]
 fn put_fields(out: &mut [u8], xs: [u64; 10])
     requires { 35 ≤ length out.old }
     ensures { out.new
-        ≡ (take 2 out.old ++ bytes_in form_nF.field_bytes xs) ++ drop 35 out.old }
+        ≡ (take 2 out.old ++ bytes_in form_nf.field_bytes xs) ++ drop 35 out.old }
 {
     let mut at = 2;
     let mut k = 0;
@@ -214,7 +216,7 @@ fn put_fields(out: &mut [u8], xs: [u64; 10])
 // The bytes of a record, not judged. Bytes past 35 stay.
 fn put(out: &mut [u8], r: Record)
     requires { 35 ≤ length out.old }
-    ensures { out.new ≡ bytes_as form_nF r ++ drop 35 out.old }
+    ensures { out.new ≡ bytes_as form_nf r ++ drop 35 out.old }
 {
     put_fields(out, fields(r));
     out[0] = 0x4e;
@@ -223,8 +225,8 @@ fn put(out: &mut [u8], r: Record)
 
 // Writes a record, or answers 19, then 18, and changes nothing. Bytes past 35 stay.
 pub fn write(r: Record, out: &mut [u8]) -> u32
-    ensures { (result ≡ (written_as form_nF r out.old).number)
-        × (out.new ≡ (written_as form_nF r out.old).bytes) }
+    ensures { (result ≡ (written_as form_nf r out.old).number)
+        × (out.new ≡ (written_as form_nf r out.old).bytes) }
 {
     if !allowed(r) {
         return 19;

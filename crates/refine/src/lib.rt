@@ -1,9 +1,11 @@
 // The position covariance of refine/mod.rs, by value.
+#![tactic(auto)]
+
 ghost use Rattle.std.specs.Prelude.{◌≡◌};
 ghost use Rattle.refine.specs.Covariance.{covariance, add_covariance, all_finite, judged};
 
 // Symmetric 2 by 2 covariance of a refined corner position.
-#[derive(Drop)]
+#[derive(Clone, Copy)]
 pub struct PositionCovariance {
     // Variance of the x coordinate.
     pub xx: f32,

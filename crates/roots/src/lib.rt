@@ -1,4 +1,6 @@
 // Square roots.
+#![tactic(auto)]
+
 ghost use Rattle.std.specs.Prelude.{◌≡◌, ◌*◌, ◌/◌, ◌%◌, ◌^◌, ◌<◌, ◌≤◌};
 ghost use Rattle.std.specs.Float.{binary32, binary64};
 ghost use Rattle.ieee.specs.Sqrt.{sqrt, nearest_root};

@@ -1,5 +1,5 @@
 -- A band's variance, and what the bands of the image admit. Assumes nothing.
-use mathlib.Core.Path.{◌≡◌, refl, sym, ap, ◌∙◌, subst}
+use mathlib.Core.Path.{◌≡◌, sym, ap, ◌∙◌, subst}
 use mathlib.Core.Bool.{Bool, true, false, cond, not, ◌&&◌}
 use mathlib.Core.List.{List}
 use Prim.Native.Nat.{ℕ, zero, suc, ◌+◌, ◌-◌, ◌≤◌, ◌<◌, min}
@@ -12,7 +12,6 @@ use lib.Ieee.{Float, binary64, add, mul, lt}
 use borrow.Author.Tests.{lt-ltb, le-ltb, lt-leb, le-leb}
 use Rattle.ieee.specs.Order.{larger}
 use Rattle.laws.proofs.Choice.{chosen, passed}
-use Rattle.ieee.specs.Numbers.{plus_zero}
 use Rattle.sums.specs.Numbers.{rounding_op_var}
 use Rattle.sums.specs.Admitted.{total_with}
 use Rattle.rounds.specs.Numbers.{max_band_ratio}
@@ -110,9 +109,6 @@ pub record Joined (g o : List Float) (starts : List ℕ) (var : Float) (s : Floa
   pub low : b ≤ 4
   pub sum : s ≡ (bands_total g o starts var b).sum
   pub count : n ≡ (bands_total g o starts var b).n
-
-pub joined_start : (g o : List Float) (starts : List ℕ) (var : Float) → Joined g o starts var plus_zero 0 0
-joined_start g o starts var = record { low = omega arith; sum = refl; count = refl }
 
 module _ {g o : List Float} {starts : List ℕ} {var s : Float} {n b : ℕ} (j : Joined g o starts var s n b) where
   abbrev pub next_band : Total

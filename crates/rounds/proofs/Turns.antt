@@ -68,13 +68,6 @@ pub record Turning (N : ℕ) (f : Float → Total) (start : Float) (s : Settled)
   pub low : s.rounds ≤ N
   pub left : rounds_from f (N - s.rounds) s ≡ rounds_from f N (start_at start)
 
-pub turning_start : (N : ℕ) (f : Float → Total) (start : Float) {s : Settled} → s ≡ start_at start → Turning N f start s
-turning_start N f start e =
-    subst (Turning N f start) (sym e) (record { low = omega arith; left = ap (λ (k : ℕ). rounds_from f k (start_at start)) (all N) })
-  where
-    all : (N : ℕ) → N - 0 ≡ N
-    all N = omega arith
-
 module _ {N : ℕ} {f : Float → Total} {start : Float} {s : Settled} (i : Turning N f start s) (h : s.rounds < N)
     {k : Total} (e : k ≡ f s.var) {t : Round} (w : t ≡ one_round k s) where
   abbrev after : Round → Settled

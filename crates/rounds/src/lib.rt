@@ -1,4 +1,6 @@
 // The rounds of a pass: noise.rs, `Band::variance` and `Sample::image_variance`.
+#![tactic(auto)]
+
 ghost use Rattle.std.specs.Prelude.{◌≡◌, ◌≤◌, ◌<◌, length};
 ghost use Rattle.sums.specs.Start as Start;
 ghost use Rattle.rounds.specs.Rounds as Rounds;
@@ -22,7 +24,7 @@ pub const BANDS: usize = 4;
 const TRUNC_SECOND_MOMENT: f64 = 0.998929;
 
 // Where rounds end: the count and the variance of the last one, and how many were evaluated.
-#[derive(Drop)]
+#[derive(Clone, Copy)]
 pub struct Settled {
     pub n: usize,
     pub var: f64,
@@ -37,7 +39,7 @@ struct Round {
 }
 
 // A band's admitted count and variance.
-#[derive(Drop)]
+#[derive(Clone, Copy)]
 pub enum Found {
     Variance(usize, f64),
     Missing,

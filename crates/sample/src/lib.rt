@@ -1,4 +1,6 @@
 // Sampling: the windows of a pass measured into the lent i32 slice, counted by band, and laid into the lent f32 slice.
+#![tactic(auto)]
+
 ghost use Rattle.std.specs.Prelude.{◌≡◌, ◌+◌, ◌*◌, ◌<◌, ◌≤◌, length};
 ghost use Rattle.measure.specs.Figures.{figures_of};
 ghost use Rattle.measure.specs.Columns.{columns_in, column_count, figure_in, figures_in};

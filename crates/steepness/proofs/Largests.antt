@@ -19,7 +19,7 @@ use Rattle.laws.proofs.Choice.{chosen, passed}
 use Rattle.ieee.proofs.TotalOrder.{irreflexive}
 use Rattle.quantile.proofs.Rises.{rises_upto, rising_rises, length_inserted}
 use Rattle.levels.specs.Clear.{clear, AllClear}
-use Rattle.levels.proofs.Clears.{clear_at, all_clear}
+use Rattle.levels.proofs.Clears.{clear_at}
 use Rattle.steepness.specs.Slide.{greater, middle}
 use Rattle.steepness.specs.Steepness.{largest}
 

@@ -1,4 +1,6 @@
 // The mean of the roots of the largest of 81 squared gradients, halved: uncertainty.rs, part of `PixelTile::edge_width`.
+#![tactic(auto)]
+
 ghost use Rattle.std.specs.Prelude.{◌≡◌, map, T, length, drop};
 ghost use Rattle.std.specs.Float.{binary32};
 ghost use Rattle.ieee.specs.Sqrt.{sqrt};

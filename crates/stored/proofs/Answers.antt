@@ -2,26 +2,13 @@
 use mathlib.Core.Path.{◌≡◌, sym, ap, ◌∙◌}
 use mathlib.Core.Bool.{Bool, true, false}
 use mathlib.Core.List.{List}
-use Prim.Native.Nat.{ℕ, zero, suc, ◌+◌, ◌%◌, ◌≤◌, ◌<◌}
-use native.Mathlib.Omega.{arith}
+use Prim.Native.Nat.{ℕ, ◌+◌, ◌%◌, ◌≤◌, ◌<◌}
 use lib.Dec.{eqb}
 use lib.Ieee.{Float}
 use lib.ListN.{get_or, get_or-eq_default}
 use borrow.Author.Tests.{le-leb, lt-leb}
 use Rattle.stored.specs.Floats.{answers, float_answer}
 use Rattle.stored.specs.Lines.{written, is_line, agrees_at}
-
--- k is none of the first n numbers, as a match with an arm for each has it
-abbrev pub Missed : ℕ → ℕ → Type 0
-Missed zero k = Unit
-Missed (suc n) k = Missed n k × (k ≡ n → ⊥)
-
-pub missed : (n : ℕ) {k : ℕ} → Missed n k → n ≤ k
-missed zero m = omega arith
-missed (suc n) {k} m = go (missed n m.0) m.1
-  where
-    go : n ≤ k → (k ≡ n → ⊥) → suc n ≤ k
-    go h e = omega arith
 
 -- the pattern g of what a helper f answers, from what is known of each step
 module _ {A : Type 0} (g : A → ℕ) where

@@ -1,5 +1,5 @@
 -- Lines of a list: a letter, columns of a blank and sixteen hexadecimal digits each, a line end.
-use Rattle.std.specs.Prelude.{ℕ, zero, suc, ◌+◌, ◌-◌, ◌*◌, ◌/◌, ◌%◌, Bool, true, cond, ◌&&◌, ◌||◌, List, eqb, ltb, leb, length, get_or}
+use Rattle.std.specs.Prelude.{ℕ, zero, suc, ◌+◌, ◌*◌, ◌/◌, ◌%◌, Bool, true, cond, ◌&&◌, ◌||◌, List, eqb, ltb, leb, length, get_or}
 use Rattle.std.specs.Bool.{beq}
 use Rattle.stored.specs.Floats.{float_answer}
 

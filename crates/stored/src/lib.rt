@@ -4,6 +4,8 @@
 // and a line end. All lines of a list have the same number of columns. A line with any other byte cannot be read, and never agrees.
 // A capital letter stands for the same call as the small one: lists keep answers there that were altered, to show that a wrong one
 // is noticed.
+#![tactic(auto)]
+
 pub mod floats;
 
 ghost use Rattle.std.specs.Prelude.{◌≡◌, ◌+◌, ◌*◌, ◌<◌, ◌≤◌, length};
@@ -11,7 +13,7 @@ ghost use Rattle.stored.specs.Lines.{is_digit, is_letter, digit_value, written, 
 ghost use Rattle.stored.specs.Floats.{single, signed};
 ghost use Rattle.stored.specs.Lines.{hit_count, lines_of, letter_at, number_at};
 
-use libc::STDOUT_FILENO;
+use std::io;
 
 fn is_digit(c: u8) -> bool
     ensures { result ≡ is_digit c }
@@ -180,40 +182,42 @@ pub fn count(text: &[u8], columns: u8, letter: u8, good: bool) -> usize
 }
 
 // Writes, after the name, how many lines with the small letter agree and differ, and how many with the capital one.
-pub fn report(name: &[u8], text: &[u8], columns: u8, small: u8, capital: u8) {
-    io::write_all(STDOUT_FILENO, name);
-    io::write_all(STDOUT_FILENO, b": ");
-    both(text, columns, small);
-    io::write_all(STDOUT_FILENO, b"; altered: ");
-    both(text, columns, capital);
-    io::write_all(STDOUT_FILENO, b"\n");
+pub fn report(
+    rt: &impl Print,
+    name: &str,
+    text: &[u8],
+    columns: u8,
+    small: u8,
+    capital: u8,
+) -> io::Result<()> {
+    print!(rt; "{name}: ")?;
+    both(rt, text, columns, small)?;
+    print!(rt; "; altered: ")?;
+    both(rt, text, columns, capital)?;
+    println!(rt; "")
 }
 
-fn both(text: &[u8], columns: u8, letter: u8) {
-    io::print_decimal(STDOUT_FILENO, count(text, columns, letter, true) as u64);
-    io::write_all(STDOUT_FILENO, b" agree, ");
-    io::print_decimal(STDOUT_FILENO, count(text, columns, letter, false) as u64);
-    io::write_all(STDOUT_FILENO, b" differ");
+fn both(rt: &impl Print, text: &[u8], columns: u8, letter: u8) -> io::Result<()> {
+    let agree = count(text, columns, letter, true);
+    let differ = count(text, columns, letter, false);
+    print!(rt; "{agree} agree, {differ} differ")
 }
 
 // Writes how many lines there are, and how many bytes after the last whole one.
-pub fn report_lines(text: &[u8], columns: u8) {
+pub fn report_lines(rt: &impl Print, text: &[u8], columns: u8) -> io::Result<()> {
     let width = width(columns);
-    io::print_decimal(STDOUT_FILENO, (text.len() / width) as u64);
-    io::write_all(STDOUT_FILENO, b" lines, ");
-    io::print_decimal(STDOUT_FILENO, (text.len() % width) as u64);
-    io::write_all(STDOUT_FILENO, b" bytes over\n");
+    let lines = text.len() / width;
+    let over = text.len() % width;
+    println!(rt; "{lines} lines, {over} bytes over")
 }
 
 // Writes the name of a call and the number that it answers.
-pub fn report_answer(name: &[u8], number: u32) {
-    io::write_all(STDOUT_FILENO, name);
-    io::write_all(STDOUT_FILENO, b" ");
-    io::print_decimal(STDOUT_FILENO, number as u64);
+pub fn report_answer(rt: &impl Print, name: &str, number: u32) -> io::Result<()> {
+    print!(rt; "{name} {number}")
 }
 
 // Writes a blank and x's pattern in eight hexadecimal digits.
-pub fn report_float(x: f32) {
-    io::write_all(STDOUT_FILENO, b" ");
-    io::print_hex(STDOUT_FILENO, floats::of_single(x), 8);
+pub fn report_float(rt: &impl Print, x: f32) -> io::Result<()> {
+    let pattern = floats::of_single(x);
+    print!(rt; " {pattern:08x}")
 }

@@ -1,7 +1,9 @@
 // Replays stored calls of the systematic model and the covariance model: a list on standard input, what each call answers on
 // standard output. `oracle/compare --store model` makes both anew.
+#![tactic(auto)]
+
 use compare::covariance_model;
-use libc::{STDIN_FILENO, STDOUT_FILENO};
+use std::io;
 
 const COLUMNS: u8 = 9;
 
@@ -11,6 +13,7 @@ fn float_in(text: &[u8], i: usize, j: u8) -> f32 {
 
 // Gain and residual at the width of line i, if it is known, and the knots' number.
 fn at(
+    rt: &impl Print,
     text: &[u8],
     i: usize,
     widths: &[f32; 16],
@@ -18,20 +21,21 @@ fn at(
     residuals: &[f32; 16],
     count: usize,
     floor: f32,
-) {
+) -> io::Result<()> {
     let known = stored::number(text, COLUMNS, i, 0) != 0;
     let w = float_in(text, i, 1);
     let mut out = [0.0; 2];
     let number = covariance_model::vuzgari_compare_at(
         widths, gains, residuals, count, floor, known, w, &mut out,
     );
-    stored::report_answer(b"at", number);
-    stored::report_float(out[0]);
-    stored::report_float(out[1]);
+    stored::report_answer(rt, "at", number)?;
+    stored::report_float(rt, out[0])?;
+    stored::report_float(rt, out[1])
 }
 
 // The model of line i: the width, if it is known, the grid, the noise part and the offset.
 fn model(
+    rt: &impl Print,
     text: &[u8],
     i: usize,
     widths: &[f32; 16],
@@ -39,7 +43,7 @@ fn model(
     residuals: &[f32; 16],
     count: usize,
     floor: f32,
-) {
+) -> io::Result<()> {
     let known = stored::number(text, COLUMNS, i, 0) != 0;
     let w = float_in(text, i, 1);
     let grid = float_in(text, i, 2);
@@ -53,19 +57,19 @@ fn model(
     let number = covariance_model::vuzgari_compare_model(
         widths, gains, residuals, count, floor, &noise, &offset, known, w, grid, &mut out,
     );
-    stored::report_answer(b"model", number);
-    stored::report_float(out[0]);
-    stored::report_float(out[1]);
-    stored::report_float(out[2]);
-    stored::report_float(out[3]);
-    stored::report_float(out[4]);
-    stored::report_float(out[5]);
-    stored::report_float(out[6]);
-    stored::report_float(out[7]);
+    stored::report_answer(rt, "model", number)?;
+    stored::report_float(rt, out[0])?;
+    stored::report_float(rt, out[1])?;
+    stored::report_float(rt, out[2])?;
+    stored::report_float(rt, out[3])?;
+    stored::report_float(rt, out[4])?;
+    stored::report_float(rt, out[5])?;
+    stored::report_float(rt, out[6])?;
+    stored::report_float(rt, out[7])
 }
 
 // The noise part alone or the whole covariance of line i: noise part, systematic part, growth, sigma.
-fn level(text: &[u8], i: usize, whole: bool) {
+fn level(rt: &impl Print, text: &[u8], i: usize, whole: bool) -> io::Result<()> {
     let noise = [
         float_in(text, i, 0),
         float_in(text, i, 1),
@@ -87,7 +91,7 @@ fn level(text: &[u8], i: usize, whole: bool) {
             sigma,
             &mut out,
         );
-        stored::report_answer(b"total", number);
+        stored::report_answer(rt, "total", number)?;
     } else {
         let number = covariance_model::vuzgari_compare_noise_at(
             &noise,
@@ -96,16 +100,17 @@ fn level(text: &[u8], i: usize, whole: bool) {
             sigma,
             &mut out,
         );
-        stored::report_answer(b"noise_at", number);
+        stored::report_answer(rt, "noise_at", number)?;
     }
-    stored::report_float(out[0]);
-    stored::report_float(out[1]);
-    stored::report_float(out[2]);
+    stored::report_float(rt, out[0])?;
+    stored::report_float(rt, out[1])?;
+    stored::report_float(rt, out[2])
 }
 
 // The call of line i, on knots that are carried from line to line: s starts anew with a count and a floor, k sets a knot, a and m ask
 // the systematic model, n and t the covariance model.
 fn call(
+    rt: &impl Print,
     text: &[u8],
     i: usize,
     widths: &mut [f32; 16],
@@ -113,7 +118,7 @@ fn call(
     residuals: &mut [f32; 16],
     count: &mut usize,
     floor: &mut f32,
-) {
+) -> io::Result<()> {
     let letter = stored::letter(text, COLUMNS, i);
     let n = *count;
     let f = *floor;
@@ -123,30 +128,30 @@ fn call(
         *widths = [0.0; 16];
         *gains = [0.0; 16];
         *residuals = [0.0; 16];
-        return;
+        return Ok(());
     }
     if letter == b'k' {
         let k = (stored::number(text, COLUMNS, i, 0) % 16) as usize;
         widths[k] = float_in(text, i, 1);
         gains[k] = float_in(text, i, 2);
         residuals[k] = float_in(text, i, 3);
-        return;
+        return Ok(());
     }
     if letter == b'a' {
-        at(text, i, widths, gains, residuals, n, f);
+        at(rt, text, i, widths, gains, residuals, n, f)?;
     } else if letter == b'm' {
-        model(text, i, widths, gains, residuals, n, f);
+        model(rt, text, i, widths, gains, residuals, n, f)?;
     } else if letter == b'n' {
-        level(text, i, false);
+        level(rt, text, i, false)?;
     } else if letter == b't' {
-        level(text, i, true);
+        level(rt, text, i, true)?;
     } else {
-        io::write_all(STDOUT_FILENO, b"a line that cannot be read");
+        print!(rt; "a line that cannot be read")?;
     }
-    io::write_all(STDOUT_FILENO, b"\n");
+    println!(rt; "")
 }
 
-fn replay(text: &[u8]) {
+fn replay(rt: &impl Print, text: &[u8]) -> io::Result<()> {
     let lines = stored::lines(text, COLUMNS);
     let mut widths = [0.0; 16];
     let mut gains = [0.0; 16];
@@ -156,6 +161,7 @@ fn replay(text: &[u8]) {
     let mut i = 0;
     while i < lines {
         call(
+            rt,
             text,
             i,
             &mut widths,
@@ -163,14 +169,17 @@ fn replay(text: &[u8]) {
             &mut residuals,
             &mut count,
             &mut floor,
-        );
+        )?;
         i += 1;
     }
-    stored::report_lines(text, COLUMNS);
+    stored::report_lines(rt, text, COLUMNS)
 }
 
-fn main() {
-    let mut buffer = io::large_buffer();
-    let n = io::read_full(STDIN_FILENO, &mut buffer);
-    replay(&buffer[..n]);
+fn main(rt: HostRuntime) -> io::Result<()> {
+    let mut room = [0; 65536];
+    let filled = streams::read_full(&mut rt.stdin(), &mut room);
+    if let Some(why) = filled.failed {
+        return Err(why);
+    }
+    replay(&rt, &room[..filled.count])
 }

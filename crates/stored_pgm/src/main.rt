@@ -1,8 +1,10 @@
 // Replays stored calls on grey files: a list on standard input, what each call answers and leaves on standard output.
 // `oracle/compare --store pgm` makes both anew.
+#![tactic(auto)]
+
 ghost use Rattle.std.specs.Prelude.{◌≡◌, length};
 
-use libc::{STDIN_FILENO, STDOUT_FILENO};
+use std::io;
 
 const COLUMNS: u8 = 7;
 
@@ -25,87 +27,92 @@ fn bytes_in(text: &[u8], i: usize) -> [u8; 40]
     bytes
 }
 
-fn report_fields(fields: &[u64; 6]) {
+fn report_fields(rt: &impl Print, fields: &[u64; 6]) -> io::Result<()> {
     let mut k = 0;
     while k < 6 {
-        io::write_all(STDOUT_FILENO, b" ");
-        io::print_decimal(STDOUT_FILENO, fields[k]);
+        let field = fields[k];
+        print!(rt; " {field}")?;
         k += 1;
     }
+    Ok(())
 }
 
-fn report_words(words: &[u32; 10]) {
+fn report_words(rt: &impl Print, words: &[u32; 10]) -> io::Result<()> {
     let mut k = 0;
     while k < 10 {
-        io::write_all(STDOUT_FILENO, b" ");
-        io::print_decimal(STDOUT_FILENO, laws::wide(words[k]));
+        let word = laws::wide(words[k]);
+        print!(rt; " {word}")?;
         k += 1;
     }
+    Ok(())
 }
 
 // Reads a header at the first n of the bytes into the first m of 6 fields, and reports all 6.
-fn header(bytes: &[u8], n: usize, m: usize) {
+fn header(rt: &impl Print, bytes: &[u8], n: usize, m: usize) -> io::Result<()> {
     let mut fields = [999; 6];
     if n > bytes.len() {
-        return;
+        return Ok(());
     }
     if m > 6 {
-        return;
+        return Ok(());
     }
     let number = vuzgari::vuzgari_pgm_header(&bytes[..n], &mut fields[..m]);
-    stored::report_answer(b"header", number);
-    report_fields(&fields);
+    stored::report_answer(rt, "header", number)?;
+    report_fields(rt, &fields)
 }
 
 // Judges a file of `len` bytes by the first n.
-fn judge(bytes: &[u8], n: usize, len: usize) {
+fn judge(rt: &impl Print, bytes: &[u8], n: usize, len: usize) -> io::Result<()> {
     if n > bytes.len() {
-        return;
+        return Ok(());
     }
     let number = vuzgari::vuzgari_pgm_judge(&bytes[..n], len);
-    stored::report_answer(b"judge", number);
+    stored::report_answer(rt, "judge", number)
 }
 
 // The ten fields that `pgmnoise` prints for the first n of the bytes.
-fn pgmnoise(bytes: &[u8], n: usize) {
+fn pgmnoise(rt: &impl Print, bytes: &[u8], n: usize) -> io::Result<()> {
     if n > bytes.len() {
-        return;
+        return Ok(());
     }
     let words = answer::words(grey::answer_to(&bytes[..n]));
-    io::write_all(STDOUT_FILENO, b"pgmnoise");
-    report_words(&words);
+    print!(rt; "pgmnoise")?;
+    report_words(rt, &words)
 }
 
 // The call of line i: h reads a header, j judges a file, p is the program.
-fn call(text: &[u8], i: usize) {
+fn call(rt: &impl Print, text: &[u8], i: usize) -> io::Result<()> {
     let letter = stored::letter(text, COLUMNS, i);
     let n = stored::number(text, COLUMNS, i, 0) as usize;
     let m = stored::number(text, COLUMNS, i, 1) as usize;
     let bytes = bytes_in(text, i);
     if letter == b'h' {
-        header(&bytes, n, m);
+        header(rt, &bytes, n, m)?;
     } else if letter == b'j' {
-        judge(&bytes, n, m);
+        judge(rt, &bytes, n, m)?;
     } else if letter == b'p' {
-        pgmnoise(&bytes, n);
+        pgmnoise(rt, &bytes, n)?;
     } else {
-        io::write_all(STDOUT_FILENO, b"a line that cannot be read");
+        print!(rt; "a line that cannot be read")?;
     }
-    io::write_all(STDOUT_FILENO, b"\n");
+    println!(rt; "")
 }
 
-fn replay(text: &[u8]) {
+fn replay(rt: &impl Print, text: &[u8]) -> io::Result<()> {
     let lines = stored::lines(text, COLUMNS);
     let mut i = 0;
     while i < lines {
-        call(text, i);
+        call(rt, text, i)?;
         i += 1;
     }
-    stored::report_lines(text, COLUMNS);
+    stored::report_lines(rt, text, COLUMNS)
 }
 
-fn main() {
-    let mut buffer = io::large_buffer();
-    let n = io::read_full(STDIN_FILENO, &mut buffer);
-    replay(&buffer[..n]);
+fn main(rt: HostRuntime) -> io::Result<()> {
+    let mut room = [0; 65536];
+    let filled = streams::read_full(&mut rt.stdin(), &mut room);
+    if let Some(why) = filled.failed {
+        return Err(why);
+    }
+    replay(&rt, &room[..filled.count])
 }

@@ -1,9 +1,11 @@
 // Replays stored calls of the noise and edge calls, of the rounds and of thousandths: a list on standard input, what each call
 // answers on standard output. `oracle/compare --store twins` makes both anew.
+#![tactic(auto)]
+
 ghost use Rattle.std.specs.Prelude.{◌<◌, ◌^◌};
 
 use compare::{bands, floats};
-use libc::{STDIN_FILENO, STDOUT_FILENO};
+use std::io;
 
 const COLUMNS: u8 = 4;
 
@@ -83,74 +85,98 @@ fn push(
 }
 
 // The bytes of an answer in hexadecimal.
-fn report_bytes(bytes: &[u8; 40]) {
+fn report_bytes(rt: &impl Print, bytes: &[u8; 40]) -> io::Result<()> {
     let mut k = 0;
     while k < 40 {
-        io::print_hex(STDOUT_FILENO, wide(bytes[k]), 2);
+        let byte = wide(bytes[k]);
+        print!(rt; "{byte:02x}")?;
         k += 1;
     }
+    Ok(())
 }
 
-fn noise(image: &[u8], w: usize, h: usize, n: usize) {
+fn noise(rt: &impl Print, image: &[u8], w: usize, h: usize, n: usize) -> io::Result<()> {
     let mut ints = [0; 12288];
     let mut floats = [0.0; 8194];
     let mut out = [0; 40];
     if n > image.len() {
-        return;
+        return Ok(());
     }
     let number = vuzgari::vuzgari_noise(&image[..n], w, h, &mut ints, &mut floats, &mut out);
-    stored::report_answer(b"noise", number);
-    io::write_all(STDOUT_FILENO, b" ");
-    report_bytes(&out);
+    stored::report_answer(rt, "noise", number)?;
+    print!(rt; " ")?;
+    report_bytes(rt, &out)
 }
 
-fn edge(image: &[u8], w: usize, h: usize, n: usize, cx: i32, cy: i32) {
+fn edge(
+    rt: &impl Print,
+    image: &[u8],
+    w: usize,
+    h: usize,
+    n: usize,
+    cx: i32,
+    cy: i32,
+) -> io::Result<()> {
     if n > image.len() {
-        return;
+        return Ok(());
     }
     let code = vuzgari::vuzgari_edge_width(&image[..n], w, h, 0, 0, cx, cy);
-    io::write_all(STDOUT_FILENO, b"edge ");
-    io::print_hex(STDOUT_FILENO, code, 8);
+    print!(rt; "edge {code:08x}")
 }
 
 // What the rounds answer; the bands end before e1, e2, e3 and the end.
-fn rounds(gate: &[f32], square: &[f32], e1: usize, e2: usize, e3: usize) {
+fn rounds(
+    rt: &impl Print,
+    gate: &[f32],
+    square: &[f32],
+    e1: usize,
+    e2: usize,
+    e3: usize,
+) -> io::Result<()> {
     if gate.len() != square.len() {
-        return;
+        return Ok(());
     }
     if e3 > gate.len() {
-        return;
+        return Ok(());
     }
     if e2 > e3 {
-        return;
+        return Ok(());
     }
     if e1 > e2 {
-        return;
+        return Ok(());
     }
     let number = bands::vuzgari_compare_noise_number(gate, square, e1, e2, e3);
     let sigma = bands::vuzgari_compare_noise_sigma(gate, square, e1, e2, e3);
     let count = bands::vuzgari_compare_noise_rounds(gate, square, e1, e2, e3);
-    stored::report_answer(b"windows", number);
-    stored::report_float(sigma);
-    io::write_all(STDOUT_FILENO, b" ");
-    io::print_decimal(STDOUT_FILENO, count as u64);
+    stored::report_answer(rt, "windows", number)?;
+    stored::report_float(rt, sigma)?;
+    print!(rt; " {count}")
 }
 
 // The same of the first n windows.
-fn windows(gate: &[f32], square: &[f32], e1: usize, e2: usize, e3: usize, n: usize) {
+fn windows(
+    rt: &impl Print,
+    gate: &[f32],
+    square: &[f32],
+    e1: usize,
+    e2: usize,
+    e3: usize,
+    n: usize,
+) -> io::Result<()> {
     if n > gate.len() {
-        return;
+        return Ok(());
     }
     if n > square.len() {
-        return;
+        return Ok(());
     }
-    rounds(&gate[..n], &square[..n], e1, e2, e3);
+    rounds(rt, &gate[..n], &square[..n], e1, e2, e3)
 }
 
 // The call of line i, on an image and a list of windows that are carried from line to line: i starts an image, l sets the level of a
 // quarter, f fills, p sets a pixel, n and e ask for noise and width; b starts a list, w adds windows to a band, r asks for the rounds;
 // m asks for the thousandths of a pattern.
 fn call(
+    rt: &impl Print,
     text: &[u8],
     i: usize,
     image: &mut [u8; 4096],
@@ -159,7 +185,7 @@ fn call(
     gate: &mut [f32; 4096],
     square: &mut [f32; 4096],
     ends: &mut [usize; 4],
-) {
+) -> io::Result<()> {
     let letter = stored::letter(text, COLUMNS, i);
     let a = stored::number(text, COLUMNS, i, 0);
     let b = stored::number(text, COLUMNS, i, 1);
@@ -169,28 +195,28 @@ fn call(
     let n = times(w as u64, h as u64) as usize;
     if letter == b'i' {
         *sides = [a as usize, b as usize];
-        return;
+        return Ok(());
     }
     if letter == b'l' {
         let k = (a % 4) as usize;
         levels[k] = b;
         levels[k + 4] = c;
-        return;
+        return Ok(());
     }
     if letter == b'f' {
         paint(image, w, levels, a, b);
-        return;
+        return Ok(());
     }
     if letter == b'p' {
         let k = (times(b, w as u64) + a % 16384) as usize;
         if k < 4096 {
             image[k] = (c % 256) as u8;
         }
-        return;
+        return Ok(());
     }
     if letter == b'b' {
         *ends = [0; 4];
-        return;
+        return Ok(());
     }
     if letter == b'w' {
         let g = stored::float_in(text, COLUMNS, i, 2);
@@ -206,26 +232,26 @@ fn call(
             ends[2] = end;
         }
         ends[3] = end;
-        return;
+        return Ok(());
     }
     if letter == b'n' {
-        noise(image, w, h, n);
+        noise(rt, image, w, h, n)?;
     } else if letter == b'e' {
         let cx = stored::int_in(text, COLUMNS, i, 0);
         let cy = stored::int_in(text, COLUMNS, i, 1);
-        edge(image, w, h, n, cx, cy);
+        edge(rt, image, w, h, n, cx, cy)?;
     } else if letter == b'r' {
-        windows(gate, square, ends[0], ends[1], ends[2], ends[3]);
+        windows(rt, gate, square, ends[0], ends[1], ends[2], ends[3])?;
     } else if letter == b'm' {
         let x = stored::float_in(text, COLUMNS, i, 0);
-        stored::report_answer(b"milli", floats::vuzgari_compare_milli(x));
+        stored::report_answer(rt, "milli", floats::vuzgari_compare_milli(x))?;
     } else {
-        io::write_all(STDOUT_FILENO, b"a line that cannot be read");
+        print!(rt; "a line that cannot be read")?;
     }
-    io::write_all(STDOUT_FILENO, b"\n");
+    println!(rt; "")
 }
 
-fn replay(text: &[u8]) {
+fn replay(rt: &impl Print, text: &[u8]) -> io::Result<()> {
     let lines = stored::lines(text, COLUMNS);
     let mut image = [0; 4096];
     let mut sides = [0; 2];
@@ -236,6 +262,7 @@ fn replay(text: &[u8]) {
     let mut i = 0;
     while i < lines {
         call(
+            rt,
             text,
             i,
             &mut image,
@@ -244,14 +271,17 @@ fn replay(text: &[u8]) {
             &mut gate,
             &mut square,
             &mut ends,
-        );
+        )?;
         i += 1;
     }
-    stored::report_lines(text, COLUMNS);
+    stored::report_lines(rt, text, COLUMNS)
 }
 
-fn main() {
-    let mut buffer = io::large_buffer();
-    let n = io::read_full(STDIN_FILENO, &mut buffer);
-    replay(&buffer[..n]);
+fn main(rt: HostRuntime) -> io::Result<()> {
+    let mut room = [0; 65536];
+    let filled = streams::read_full(&mut rt.stdin(), &mut room);
+    if let Some(why) = filled.failed {
+        return Err(why);
+    }
+    replay(&rt, &room[..filled.count])
 }

@@ -1,16 +1,13 @@
 -- What the loops over eight blocks side by side keep. Assumes nothing.
-use Rattle.std.proofs.Common.{◌≡◌, ℕ, zero, suc, ◌+◌, ◌-◌, ◌*◌, ◌<◌, ◌≤◌, min, cond, List, length, get_or, set, replicate, sym, refl, ap, ◌∙◌, subst, ⊎_elim, le_antisymm, eq-or-lt_of_le, add-one, arith, length-set, get_or-set_same}
-use lib.ListN.{get_or-replicate}
-use lib.Ieee.{Float, nan, binary32, binary64, add}
+use Rattle.std.proofs.Common.{◌≡◌, ℕ, zero, suc, ◌+◌, ◌-◌, ◌*◌, ◌<◌, ◌≤◌, min, cond, List, length, get_or, set, sym, refl, ap, ◌∙◌, subst, ⊎_elim, eq-or-lt_of_le, add-one, arith, length-set, get_or-set_same}
+use lib.Ieee.{Float, nan, binary32, add}
 use borrow.Author.Rules.{read_below, read_above}
-use Rattle.quantile.specs.Tally.{tally}
 use Rattle.quantile.specs.Rising.{at}
-use Rattle.ieee.specs.Numbers.{plus_zero}
-use Rattle.sums.specs.Admitted.{value, block_sum, block_count, blocks_sum, no_total}
+use Rattle.sums.specs.Admitted.{value, block_sum, block_count}
 use Rattle.sums.specs.Lanes.{Lanes, CountsFit, lanes_sum, lanes_count}
 use Rattle.sums.specs.declared.Total.{Total}
 use Rattle.sums.proofs.Counts.{tally_few}
-use Rattle.sums.proofs.Sums.{kept, sum_next, Added, added_start, added_more}
+use Rattle.sums.proofs.Sums.{kept, sum_next, Added, added_more}
 
 -- ---- a window more in each lane: the first l of eight places are new, the others old
 
@@ -20,12 +17,6 @@ pub record Half {A : Type 0} (d : A) (old new : ℕ → A) (s : List A) (l : ℕ
   pub todo : (j : ℕ) → l ≤ j → j < 8 → get_or s j d ≡ old j
 
 module _ {A : Type 0} {d : A} {old new : ℕ → A} where
-  half_start : {s : List A} → length s ≡ 8 → ((j : ℕ) → j < 8 → get_or s j d ≡ old j) → Half d old new s 0
-  half_start {s} e h = record { long = e; done = λ j q. absurd (none j q); todo = λ j p q. h j q }
-    where
-      none : (j : ℕ) → j < 0 → ⊥
-      none j q = omega arith
-
   half_put : {s : List A} {l : ℕ} → Half d old new s l → l < 8 → {v : A} → v ≡ new l → Half d old new (set s l v) (l + 1)
   half_put {s} {l} i h {v} e =
       record {
@@ -44,9 +35,6 @@ module _ {A : Type 0} {d : A} {old new : ℕ → A} where
       least : (j : ℕ) → l + 1 ≤ j → l ≤ j
       least j p = omega arith
 
-  half_end : {s : List A} {l : ℕ} → Half d old new s l → 8 ≤ l → (j : ℕ) → j < 8 → get_or s j d ≡ new j
-  half_end {s} {l} i h j q = i.done j (omega arith)
-
 pub record Step (t c : Float) (g o : List Float) (a i : ℕ) (s : List Float) (n : List ℕ) (l : ℕ) : Type 0 where
   pub low : l ≤ 8
   pub half_s : Half nan (λ (j : ℕ). block_sum t c g o (a + j * 256) i) (λ (j : ℕ). block_sum t c g o (a + j * 256) (i + 1)) s l
@@ -61,9 +49,6 @@ count_few : (t c : Float) (g o : List Float) (a m : ℕ) → block_count t c g o
 count_few t c g o a m = tally_few (λ (k : ℕ). kept t c g o (a + k)) m
 
 module _ {t c : Float} {g o : List Float} {a i : ℕ} {s : List Float} {n : List ℕ} where
-  pub step_start : Lanes t c g o a i s n → Step t c g o a i s n 0
-  step_start h = record { low = omega arith; half_s = half_start h.sums_long h.sums; half_n = half_start h.counts_long h.counts }
-
   pub step_few : {l : ℕ} → Step t c g o a i s n l → l < 8 → get_or n l 0 ≤ i
   step_few {l} h q = subst (λ (x : ℕ). x ≤ i) (sym (h.half_n.todo l (omega arith) q)) (count_few t c g o (a + l * 256) i)
 
@@ -77,18 +62,7 @@ module _ {t c : Float} {g o : List Float} {a i : ℕ} {s : List Float} {n : List
         half_n = half_put h.half_n q (count_next t c g o (a + l * 256) i (h.half_n.todo l (omega arith) q) f);
       }
 
-  pub step_end : {l : ℕ} → Step t c g o a i s n l → 8 ≤ l → Lanes t c g o a (i + 1) s n
-  step_end h q = record { sums_long = h.half_s.long; counts_long = h.half_n.long; sums = half_end h.half_s q; counts = half_end h.half_n q }
-
 -- ---- all windows of the eight blocks
-
-pub lanes_start : (t c : Float) (g o : List Float) (a : ℕ) → Lanes t c g o a 0 (replicate 8 plus_zero) (replicate 8 0)
-lanes_start t c g o a =
-    record { sums_long = refl; counts_long = refl; sums = λ j q. get_or-replicate 8 j plus_zero nan q; counts = λ j q. get_or-replicate 8 j 0 0 q }
-
-pub lanes_end : {t c : Float} {g o : List Float} {a i : ℕ} {s : List Float} {n : List ℕ} → Lanes t c g o a i s n → i ≤ 256 → 256 ≤ i
-    → Lanes t c g o a 256 s n
-lanes_end {t} {c} {g} {o} {a} {i} {s} {n} L p q = subst (λ (k : ℕ). Lanes t c g o a k s n) (le_antisymm p q) L
 
 pub counts_fit : {t c : Float} {g o : List Float} {a : ℕ} {s : List Float} {n : List ℕ} → Lanes t c g o a 256 s n → CountsFit n
 counts_fit {t} {c} {g} {o} {a} L =
@@ -101,23 +75,6 @@ pub record Up (x : List Float) (y : List ℕ) (s₀ : Float) (n₀ : ℕ) (s : F
   pub sum : s ≡ lanes_sum x s₀ l
   pub count : n ≡ lanes_count y n₀ l
   pub few : n ≤ n₀ + l * 256
-
-pub up_start : (x : List Float) (y : List ℕ) (s : Float) (n : ℕ) → Up x y s n s n 0
-up_start x y s n = record { low = omega arith; sum = refl; count = refl; few = omega arith }
-
-module _ {x : List Float} {y : List ℕ} {s₀ s : Float} {n₀ n l : ℕ} (u : Up x y s₀ n₀ s n l) where
-  pub up_more : l < 8 → {v : Float} → v ≡ at x l → CountsFit y → Up x y s₀ n₀ (add binary64 s v) (n + get_or y l 0) (l + 1)
-  up_more h {v} e w =
-      record {
-        low = omega arith;
-        sum = ap (λ (z : Float). add binary64 z v) u.sum ∙ ap (λ (z : Float). add binary64 (lanes_sum x s₀ l) z) e ∙ sym (ap (lanes_sum x s₀) (add-one l));
-        count = ap (λ (z : ℕ). z + get_or y l 0) u.count ∙ sym (ap (lanes_count y n₀) (add-one l));
-        few = omega (arith, u.few, w.each l h);
-      }
-
-  pub up_end : 8 ≤ l → (n ≡ lanes_count y n₀ 8) × (s ≡ lanes_sum x s₀ 8)
-  up_end h =
-      (u.count ∙ ap (lanes_count y n₀) (le_antisymm u.low h), u.sum ∙ ap (lanes_sum x s₀) (le_antisymm u.low h))
 
 -- ---- eight blocks more
 
@@ -148,9 +105,6 @@ pub record Eights (t c : Float) (g o : List Float) (m : ℕ) (k : Total) (j : �
   pub low : j ≤ m
   pub added : Added t c g o k.sum k.n (j * 8)
 
-pub eights_start : (t c : Float) (g o : List Float) (m : ℕ) → Eights t c g o m no_total 0
-eights_start t c g o m = record { low = omega arith; added = added_start t c g o }
-
 module _ {t c : Float} {g o : List Float} {m : ℕ} {k : Total} {j : ℕ} (E : Eights t c g o m k j) (room : m * 2048 ≤ length g) where
   pub eights_more : j < m → {a : ℕ} {x : List Float} {y : List ℕ} → a ≡ j * 2048 → Lanes t c g o a 256 x y
       → {r : Total} → r.n ≡ lanes_count y k.n 8 → r.sum ≡ lanes_sum x k.sum 8 → Eights t c g o m r (j + 1)
@@ -168,18 +122,3 @@ module _ {t c : Float} {g o : List Float} {m : ℕ} {k : Total} {j : ℕ} (E : E
 
       place : (j : ℕ) → j * 2048 ≡ j * 8 * 256
       place j = omega arith
-
-  pub eights_end : m ≤ j → (k.n ≡ tally (kept t c g o) (m * 2048)) × (k.sum ≡ blocks_sum t c g o (m * 8))
-  eights_end h =
-      (E.added.count ∙ ap (tally (kept t c g o)) (all j m (length g) E.low h room), E.added.sum ∙ ap (λ (z : ℕ). blocks_sum t c g o (z * 8)) (le_antisymm E.low h))
-    where
-      all : (j m l : ℕ) → j ≤ m → m ≤ j → m * 2048 ≤ l → min (j * 8 * 256) l ≡ m * 2048
-      all j m l p q r = omega arith
-
--- the plain form goes on from there
-pub added_from : (t c : Float) (g o : List Float) (m : ℕ) {s : Float} {n : ℕ} → m * 2048 ≤ length g → n ≡ tally (kept t c g o) (m * 2048)
-    → s ≡ blocks_sum t c g o (m * 8) → Added t c g o s n (m * 8)
-added_from t c g o m h p q = record { low = omega arith; sum = q; count = p ∙ ap (tally (kept t c g o)) (all m (length g) h) }
-  where
-    all : (m l : ℕ) → m * 2048 ≤ l → m * 2048 ≡ min (m * 8 * 256) l
-    all m l h = omega arith

@@ -1,12 +1,11 @@
 -- What the loop of `mean_quiet` keeps. Assumes nothing.
-use Rattle.std.proofs.Common.{◌≡◌, ℕ, ◌+◌, ◌<◌, ◌≤◌, cond, eqb, List, length, sym, refl, ap, ◌∙◌, le_antisymm, add-one, eq-eqb, ne_eqb}
-use lib.Ieee.{Float, binary64, add, div, le}
+use Rattle.std.proofs.Common.{◌≡◌, ℕ, ◌≤◌, eqb, List, length, ap, ◌∙◌, le_antisymm, eq-eqb, ne_eqb}
+use lib.Ieee.{Float, binary64, div}
 use Rattle.laws.proofs.Choice.{chosen, passed}
-use Rattle.quantile.specs.Rising.{at}
 use Rattle.quantile.specs.Quantile.{quiet}
 use Rattle.ieee.specs.Numbers.{plus_zero, f64_of}
 use Rattle.sums.specs.Start.{is_quiet, quiet_sum, mean, mean_quiet, start}
-use Rattle.sums.proofs.Counts.{Tallied, tallied_start, tallied_few, tallied_more, tallied_end}
+use Rattle.sums.proofs.Counts.{Tallied, tallied_few, tallied_end}
 
 pub mean_none : (sum : Float) (n : ℕ) → n ≡ 0 → plus_zero ≡ mean sum n
 unfolding mean
@@ -20,20 +19,9 @@ pub record Quiet (o g : List Float) (q : Float) (s : Float) (n k : ℕ) : Type 0
   pub counted : Tallied (is_quiet g q) (length g) n k
   pub sum : s ≡ quiet_sum o g q k
 
-pub quiet_start : (o g : List Float) (q : Float) → Quiet o g q plus_zero 0 0
-quiet_start o g q = record { counted = tallied_start (is_quiet g q) (length g); sum = refl }
-
 module _ {o g : List Float} {q s : Float} {n k : ℕ} (i : Quiet o g q s n k) where
   pub quiet_few : n ≤ k
   quiet_few = tallied_few (is_quiet g q) i.counted
-
-  pub quiet_more : k < length g → {s' : Float} {d : ℕ} → s' ≡ cond (le (at g k) q) (add binary64 s (at o k)) s → d ≡ cond (le (at g k) q) 1 0
-      → Quiet o g q s' (n + d) (k + 1)
-  quiet_more h {s'} {d} e r =
-      record {
-        counted = tallied_more (is_quiet g q) i.counted h r;
-        sum = e ∙ ap (λ (x : Float). cond (le (at g k) q) (add binary64 x (at o k)) x) i.sum ∙ sym (ap (quiet_sum o g q) (add-one k));
-      }
 
   pub quiet_end : length g ≤ k → {r : Float} → r ≡ mean s n → r ≡ mean_quiet o g q
   unfolding mean_quiet

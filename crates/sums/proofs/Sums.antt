@@ -1,10 +1,10 @@
 -- What the loops of `block_sum` and `admitted` keep. Assumes nothing.
-use Rattle.std.proofs.Common.{◌≡◌, ℕ, suc, ◌+◌, ◌-◌, ◌*◌, ◌/◌, ◌<◌, ◌≤◌, min, Bool, List, length, sym, refl, ap, ◌∙◌, le_antisymm, add-one, arith}
+use Rattle.std.proofs.Common.{◌≡◌, ℕ, suc, ◌+◌, ◌-◌, ◌*◌, ◌<◌, ◌≤◌, min, Bool, List, length, sym, refl, ap, ◌∙◌, add-one, arith}
 use lib.Ieee.{Float, binary32, binary64, add}
 use Rattle.quantile.specs.Tally.{tally}
 use Rattle.quantile.specs.Rising.{at}
 use Rattle.ieee.specs.Numbers.{plus_zero}
-use Rattle.sums.specs.Admitted.{threshold, cut, keeps, value, block_sum, blocks_sum, blocks, total_with, admitted_by, admitted_at}
+use Rattle.sums.specs.Admitted.{threshold, cut, keeps, value, block_sum, blocks_sum, blocks, admitted_at}
 use Rattle.sums.proofs.Counts.{tally_few, tally_add}
 
 module _ (t c : Float) (g o : List Float) where
@@ -17,9 +17,6 @@ pub record Summed (t c : Float) (g o : List Float) (a m : ℕ) (s : Float) (k : 
   pub low : k ≤ m
   pub sum : s ≡ block_sum t c g o a k
 
-pub summed_start : (t c : Float) (g o : List Float) (a m : ℕ) → Summed t c g o a m plus_zero 0
-summed_start t c g o a m = record { low = omega arith; sum = refl }
-
 -- a window more, added to a block's sum
 pub sum_next : (t c : Float) (g o : List Float) (a k : ℕ) {s v : Float} → s ≡ block_sum t c g o a k → v ≡ value t c (at g (a + k)) (at o (a + k))
     → add binary32 s v ≡ block_sum t c g o a (k + 1)
@@ -28,13 +25,6 @@ sum_next t c g o a k {s} {v} p q =
   where
     one_more : block_sum t c g o a (suc k) ≡ add binary32 (block_sum t c g o a k) (value t c (at g (a + k)) (at o (a + k)))
     one_more = refl
-
-module _ {t c : Float} {g o : List Float} {a m : ℕ} {s : Float} {k : ℕ} (i : Summed t c g o a m s k) where
-  pub summed_more : k < m → {v : Float} → v ≡ value t c (at g (a + k)) (at o (a + k)) → Summed t c g o a m (add binary32 s v) (k + 1)
-  summed_more h p = record { low = omega arith; sum = sum_next t c g o a k i.sum p }
-
-  pub summed_end : m ≤ k → s ≡ block_sum t c g o a m
-  summed_end h = i.sum ∙ ap (block_sum t c g o a) (le_antisymm i.low h)
 
 -- ---- the first i blocks
 
@@ -70,18 +60,6 @@ module _ {t c : Float} {g o : List Float} {s : Float} {n i : ℕ} (I : Added t c
 
       next : (i l m : ℕ) → i * 256 < l → m ≡ min 256 (l - i * 256) → i * 256 + m ≡ min ((i + 1) * 256) l
       next i l m h e = omega arith
-
-  pub added_end : (gv ov : Float) → t ≡ threshold gv → c ≡ cut ov → length g ≤ i * 256 → total_with n s ≡ admitted_at g o gv ov
-  added_end gv ov p q h =
-      ap (λ (x : ℕ). total_with x s) (I.count ∙ ap (tally (kept t c g o)) (all i (length g) h))
-      ∙ ap (total_with (tally (kept t c g o) (length g))) (I.sum ∙ ap (blocks_sum t c g o) (last i (length g) I.low h))
-      ∙ ap (λ (x : Float). admitted_by x c g o) p ∙ ap (λ (x : Float). admitted_by (threshold gv) x g o) q
-    where
-      all : (i l : ℕ) → l ≤ i * 256 → min (i * 256) l ≡ l
-      all i l h = omega arith
-
-      last : (i l : ℕ) → i ≤ (l + 255) / 256 → l ≤ i * 256 → i ≡ (l + 255) / 256
-      last i l p q = omega arith
 
 -- ---- no more are admitted than there are
 

@@ -9,7 +9,6 @@ use Rattle.laws.specs.Lists.{from}
 use Rattle.quantile.specs.Quantile.{quiet}
 use Rattle.sums.specs.Admitted.{threshold, cut, keeps, total_with, admitted_at}
 use Rattle.sums.specs.Start.{mean, mean_quiet, start}
-use Rattle.sums.specs.declared.Total.{Total}
 
 -- ---- the gate's threshold and the output's cut
 

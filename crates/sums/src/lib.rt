@@ -1,5 +1,7 @@
 // Sums over a band's windows: noise.rs, `Band::admitted` and `mean_quiet`. A band is two parts of the one f32 slice, equally
 // long: the gates of its windows and their squared outputs.
+#![tactic(auto)]
+
 ghost use Rattle.std.specs.Prelude.{◌≡◌, ℕ, ◌+◌, ◌-◌, ◌*◌, ◌<◌, ◌≤◌, min, length, if◌then◌else◌};
 ghost use Rattle.std.specs.Float.{binary64};
 ghost use Rattle.std.specs.Float.Ieee.{add, le};
@@ -24,7 +26,7 @@ const BLOCK: usize = 256;
 const LANES: usize = 8;
 
 // How many windows are admitted, and their sum.
-#[derive(Drop)]
+#[derive(Clone, Copy)]
 pub struct Total {
     pub n: usize,
     pub sum: f64,

@@ -1,32 +1,16 @@
--- Which number a support gets, from the tests on the way; and what follows a support that nothing refuses. Assumes nothing.
-use mathlib.Core.Path.{◌≡◌, refl, sym, ap, ◌∙◌}
+-- What refuses a support stands; what follows a support that nothing refuses, and its side. Assumes nothing.
+use mathlib.Core.Path.{◌≡◌, refl}
 use mathlib.Core.Bool.{Bool, true, false, cond}
 use mathlib.Core.List.{List}
-use Prim.Native.Nat.{ℕ, ◌≤◌, ◌<◌}
+use Prim.Native.Nat.{ℕ, ◌≤◌}
 use native.Mathlib.Omega.{arith}
 use lib.Dec.{ltb}
 use lib.IntN.{ℤ}
-use borrow.Author.Tests.{lt-ltb, le-ltb, ltb-false}
+use borrow.Author.Tests.{ltb-false}
 use Rattle.limits.specs.Limits.{far_place}
 use Rattle.support.specs.Support.{after_state, state_number}
 
 module _ (o : List ℤ) (side : ℕ) where
-  -- by the two tests, in their order
-  number : Bool → Bool → ℕ
-  number a b = cond a 8 (cond b 10 0)
-
-  pub far : far_place o ≡ true → 8 ≡ state_number o side
-  unfolding after_state number
-  far h = ap (λ (a : Bool). number a (ltb 32 side)) (sym h)
-
-  pub large : far_place o ≡ false → 32 < side → 10 ≡ state_number o side
-  unfolding after_state number
-  large h l = ap (λ (b : Bool). number false b) (sym (lt-ltb 32 side l)) ∙ ap (λ (a : Bool). number a (ltb 32 side)) (sym h)
-
-  pub good : far_place o ≡ false → side ≤ 32 → 0 ≡ state_number o side
-  unfolding after_state number
-  good h l = ap (λ (b : Bool). number false b) (sym (le-ltb 32 side l)) ∙ ap (λ (a : Bool). number a (ltb 32 side)) (sym h)
-
   -- a side of a state that nothing refuses
   pub small : state_number o side ≡ 0 → side ≤ 32
   unfolding after_state

@@ -1,9 +1,12 @@
 // The square of pixels that an accumulator covers.
+#![tactic(auto)]
+
 ghost use Rattle.std.specs.Prelude.{◌≡◌, ◌+◌, ◌*◌, ◌<◌, ◌≤◌};
 ghost use Rattle.support.specs.Support.{state_number};
 ghost use Rattle.support.specs.Steps.{past_origin};
 
 // What refuses a support: 8, then 10, or 0.
+#[tactic(auto, unfolding(crate::specs::Support::after_state))]
 pub fn state_number(origin: [i32; 2], side: usize) -> u32
     ensures { result ≡ state_number origin side }
 {
@@ -17,6 +20,7 @@ pub fn state_number(origin: [i32; 2], side: usize) -> u32
 }
 
 // How far x lies past o, or `side` where that isn't one of the `side` places from o on.
+#[tactic(auto, unfolding(crate::specs::Steps::past))]
 pub fn past_origin(x: i32, o: i32, side: usize) -> usize
     ensures { result ≡ past_origin x o side }
 {

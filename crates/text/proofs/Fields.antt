@@ -1,7 +1,7 @@
 -- A field's text by its kind, and how long it can be. Assumes nothing.
 use mathlib.Core.Path.{◌≡◌, ap, ◌∙◌}
 use mathlib.Core.List.{List, [], ◌∷◌, ◌++◌}
-use Prim.Native.Nat.{ℕ, zero, suc, ◌+◌, ◌*◌, ◌-◌, ◌%◌, ◌≤◌}
+use Prim.Native.Nat.{ℕ, zero, suc, ◌+◌, ◌*◌, ◌%◌, ◌≤◌}
 use native.Mathlib.Omega.{arith}
 use lib.Dec.{eqb}
 use lib.ListN.{length, get_or, length-append}
@@ -45,9 +45,3 @@ line_short kinds values = rows 0 (length values)
 -- the same text laid
 pub laid_same : {t u : List ℕ} (out out' : List ℕ) (at r : ℕ) → t ≡ u → r ≡ at + length t → out' ≡ laid out at t → (r ≡ at + length u) × (out' ≡ laid out at u)
 laid_same out out' at r e p q = (p ∙ ap (λ (l : List ℕ). at + length l) e, q ∙ ap (λ (l : List ℕ). laid out at l) e)
-
-pub end_last : (n k : ℕ) → k + 1 ≡ n → 10 ≡ end_of n k
-end_last n k h = chosen (eqb (k + 1) n) 10 32 (eq-eqb (k + 1) n h)
-
-pub end_inner : (n k : ℕ) → (k + 1 ≡ n → ⊥) → 32 ≡ end_of n k
-end_inner n k h = passed (eqb (k + 1) n) 10 32 (ne_eqb (k + 1) n h)

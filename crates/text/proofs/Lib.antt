@@ -1,5 +1,4 @@
 -- Laws on numerals and on texts laid one after the other.
 pub mod Decimals
-pub mod Fours
 pub mod Lays
 pub mod Fields

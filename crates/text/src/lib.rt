@@ -1,4 +1,6 @@
 // Numbers and lines of fields as text, in lent bytes.
+#![tactic(auto)]
+
 ghost use Rattle.std.specs.Prelude.{◌≡◌, ◌+◌, ◌*◌, ◌<◌, ◌≤◌, length};
 ghost use Rattle.laws.specs.Lists.{laid};
 ghost use Rattle.text.specs.Numerals.{decimal_of, digit_of, hex4_of, hex8_of};

@@ -15,7 +15,6 @@ use Rattle.laws.proofs.Fill.{get_d_from}
 use Rattle.imageview.specs.Sample.{pixel}
 use Rattle.limits.specs.Limits.{image_number, far_place}
 use Rattle.limits.proofs.Laws.{neither, as_long, not_far}
-use Rattle.levels.specs.Whole.{Upto}
 use Rattle.levels.proofs.Constants.{zero_is}
 use Rattle.disk.specs.Rows.{in_rows}
 use Rattle.tile.specs.declared.PixelTile.{PixelTile}

@@ -1,5 +1,5 @@
 -- The constants' patterns, and values on which another quotient or another offset gives another number.
-use Rattle.std.specs.Prelude.{◌≡◌, refl, List, [], ◌∷◌, ℕ, ℤ, pos, negsuc, Float}
+use Rattle.std.specs.Prelude.{◌≡◌, refl, List, [], ◌∷◌, ℕ, ℤ, pos, negsuc}
 use Rattle.std.specs.Float.{binary32}
 use Rattle.std.specs.Float.Ieee.{of_bits, of_int, round, sub, mul, div}
 use Rattle.laws.specs.Lists.{from}

@@ -1,4 +1,6 @@
 // The tile of pixels about a corner and the width of the edges on it: uncertainty.rs, `PixelTile`.
+#![tactic(auto)]
+
 ghost use Rattle.std.specs.Prelude.{◌≡◌, ℕ, ◌+◌, ◌≤◌, ◌<◌, length, get_or, pos, nat_abs, ◌+ℤ◌, ◌-ℤ◌};
 ghost use Rattle.laws.specs.Lists.{from, laid};
 ghost use Rattle.imageview.specs.Sample.{clamped};

@@ -1,5 +1,5 @@
 -- What a call from C leaves: all as it was under a refusal, else the answer's bytes and cleared memory.
-use mathlib.Core.Path.{◌≡◌, refl, sym, ap, ◌∙◌}
+use mathlib.Core.Path.{◌≡◌, sym, ap, ◌∙◌}
 use mathlib.Core.Bool.{Bool, cond, ◌||◌}
 use mathlib.Core.List.{List, ◌++◌}
 use Prim.Native.Nat.{ℕ, ◌≤◌, ◌<◌}
@@ -14,7 +14,7 @@ use Rattle.answer.specs.declared.Answer.{Answer}
 use Rattle.answer.specs.Fields.{answer_bytes}
 use Rattle.noise.specs.declared.Verdict.{Verdict}
 use Rattle.noise.specs.Refusals.{short_of, refusal_of}
-use Rattle.noise.specs.Call.{refused, measured, noise_of, cleared_ints, cleared_floats, left_ints, left_floats}
+use Rattle.noise.specs.Call.{refused, measured, cleared_ints, cleared_floats, left_ints, left_floats}
 use Rattle.noise.specs.Steps.{verdict_of}
 use Rattle.noise.proofs.Causes.{same_cause, only_cause}
 use Rattle.noise.proofs.Leaving.{number_is, windows_is, noise_refused, noise_measured, all_stays, all_changes}

@@ -1,5 +1,5 @@
 -- A code says which of the two an answer is, and gives it back: a figure lies below 2 ^ 32, a number from there on. Assumes nothing.
-use mathlib.Core.Path.{◌≡◌, refl, sym, ap, subst}
+use mathlib.Core.Path.{◌≡◌, refl, sym, subst}
 use mathlib.Core.Bool.{Bool, true, false, cond}
 use mathlib.Core.Logic.{◌↔◌}
 use mathlib.Core.List.{List}

@@ -13,7 +13,7 @@ use Rattle.answer.specs.Fields.{answer_bytes}
 use Rattle.answer.specs.Examples.{forty}
 use Rattle.record.specs.declared.Reading.{Reading}
 use Rattle.record.specs.Rule.{AnswerStored}
-use Rattle.record.specs.Records.{form_nF, Written, written_as, read_as}
+use Rattle.record.specs.Records.{form_nf, Written, written_as, read_as}
 use Rattle.logging.specs.Logging.{record_from}
 use Rattle.logging.specs.Recorded.{Recorded}
 use Rattle.logging.proofs.Answers.{ran_of}
@@ -32,17 +32,17 @@ module _ (shot w h : ℕ) (a : Answer) (before : List ℕ) (k : Recorded shot w 
   left = ap (λ (b : Bool). cond b (answer_bytes a ++ rest) before) (ran_of a.number stored)
 
   writes : (out : List ℕ) → written_for shot w h (left_bytes before a) out
-      ≡ written_as form_nF (record_from shot w h (answer_bytes a ++ rest)) out
+      ≡ written_as form_nf (record_from shot w h (answer_bytes a ++ rest)) out
   writes out =
       ap (λ (l : List ℕ). written_for shot w h l out) left
       ∙ from_40 shot w h (answer_bytes a ++ rest) out (omega (arith, length-append (answer_bytes a) rest, forty a))
 
   number : (out : List ℕ) → (written_for shot w h (left_bytes before a) out).number
-      ≡ (written_as form_nF (record_from shot w h (answer_bytes a ++ rest)) out).number
+      ≡ (written_as form_nf (record_from shot w h (answer_bytes a ++ rest)) out).number
   number out = ap (λ (x : Written). x.number) (writes out)
 
   bytes_left : (out : List ℕ) → (written_for shot w h (left_bytes before a) out).bytes
-      ≡ (written_as form_nF (record_from shot w h (answer_bytes a ++ rest)) out).bytes
+      ≡ (written_as form_nf (record_from shot w h (answer_bytes a ++ rest)) out).bytes
   bytes_left out = ap (λ (x : Written). x.bytes) (writes out)
 
   by_record : Logged shot w h a before
@@ -53,7 +53,7 @@ module _ (shot w h : ℕ) (a : Answer) (before : List ℕ) (k : Recorded shot w 
         reads = λ out fields n l m.
             from_10 (written_for shot w h (left_bytes before a) out).bytes fields m
             ∙ ap (λ (x : Reading). shown_in fields x)
-            (ap (λ (y : List ℕ). read_as form_nF y) (bytes_left out) ∙ k.reads rest out n l);
+            (ap (λ (y : List ℕ). read_as form_nf y) (bytes_left out) ∙ k.reads rest out n l);
       }
 
 -- the noise call from C, whatever it is lent

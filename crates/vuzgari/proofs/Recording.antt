@@ -7,7 +7,7 @@ use borrow.Author.Tests.{lt-ltb, le-ltb}
 use Rattle.record.specs.declared.Record.{Record}
 use Rattle.record.specs.declared.Reading.{Reading}
 use Rattle.record.specs.declared.Reading.TheVariants.{Given, Refused}
-use Rattle.record.specs.Records.{form_nF, fields_of, Written, written_as, read_as}
+use Rattle.record.specs.Records.{form_nf, fields_of, Written, written_as, read_as}
 use Rattle.logging.specs.Logging.{record_from, SameForRecord}
 use Rattle.logging.proofs.Recorded.{same_for_record}
 use Rattle.vuzgari.specs.Records.{written_for, Shown, shown_in, read_for}
@@ -22,7 +22,7 @@ module _ (shot w h : ℕ) (answer out : List ℕ) where
   unfolding written_for
   under_40 l = rw (lt-ltb (length answer) 40 l) refl
 
-  pub from_40 : 40 ≤ length answer → written_for shot w h answer out ≡ written_as form_nF (record_from shot w h answer) out
+  pub from_40 : 40 ≤ length answer → written_for shot w h answer out ≡ written_as form_nf (record_from shot w h answer) out
   unfolding written_for
   from_40 l = rw (le-ltb (length answer) 40 l) refl
 
@@ -30,16 +30,16 @@ module _ (shot w h : ℕ) (answer out : List ℕ) where
   refuses l = let e = sym (under_40 l) in (ap (λ (x : Written). x.number) e, ap (λ (x : Written). x.bytes) e)
 
   pub writes : {r : Record} {n : ℕ} {l : List ℕ} → 40 ≤ length answer → r ≡ record_from shot w h answer
-      → (n ≡ (written_as form_nF r out).number) × (l ≡ (written_as form_nF r out).bytes) → Leaves n l
+      → (n ≡ (written_as form_nf r out).number) × (l ≡ (written_as form_nf r out).bytes) → Leaves n l
   writes {r} k e p =
-      let same = ap (λ (x : Record). written_as form_nF x out) e ∙ sym (from_40 k) in
+      let same = ap (λ (x : Record). written_as form_nf x out) e ∙ sym (from_40 k) in
       (p.0 ∙ ap (λ (x : Written). x.number) same, p.1 ∙ ap (λ (x : Written). x.bytes) same)
 
 -- milli, rounds and passes decide nothing
 pub not_looked_at : (shot w h : ℕ) (answer other out : List ℕ) → 40 ≤ length answer → 40 ≤ length other
     → SameForRecord answer other → written_for shot w h answer out ≡ written_for shot w h other out
 not_looked_at shot w h answer other out l m s =
-    from_40 shot w h answer out l ∙ ap (λ (r : Record). written_as form_nF r out) (same_for_record shot w h s)
+    from_40 shot w h answer out l ∙ ap (λ (r : Record). written_as form_nf r out) (same_for_record shot w h s)
     ∙ sym (from_40 shot w h other out m)
 
 -- ---- reading
@@ -52,7 +52,7 @@ module _ (bytes fields : List ℕ) where
   unfolding read_for
   under_10 l = rw (lt-ltb (length fields) 10 l) refl
 
-  pub from_10 : 10 ≤ length fields → read_for bytes fields ≡ shown_in fields (read_as form_nF bytes)
+  pub from_10 : 10 ≤ length fields → read_for bytes fields ≡ shown_in fields (read_as form_nf bytes)
   unfolding read_for
   from_10 l = rw (le-ltb (length fields) 10 l) refl
 
@@ -60,7 +60,7 @@ module _ (bytes fields : List ℕ) where
   shows_none l = let e = sym (under_10 l) in (ap (λ (x : Shown). x.number) e, ap (λ (x : Shown). x.fields) e)
 
   -- by a reading x that the bytes gave
-  module _ {x : Reading} (k : 10 ≤ length fields) (e : x ≡ read_as form_nF bytes) where
+  module _ {x : Reading} (k : 10 ≤ length fields) (e : x ≡ read_as form_nf bytes) where
     pub shows : Shows (shown_in fields x).number (shown_in fields x).fields
     shows =
         let same = ap (shown_in fields) e ∙ sym (from_10 k) in

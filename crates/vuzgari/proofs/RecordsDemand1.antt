@@ -9,7 +9,7 @@ use Rattle.ieee.proofs.Naturals.{le_or_lt}
 use Rattle.record.specs.declared.Record.{Record}
 use Rattle.record.specs.declared.Reading.{Reading}
 use Rattle.record.specs.declared.Reading.TheVariants.{Given, Refused}
-use Rattle.record.specs.Records.{form_nF, Written, written_as, record_in, read_as}
+use Rattle.record.specs.Records.{form_nf, Written, written_as, record_in, read_as}
 use Rattle.record.specs.Demand1.{WriteMeets, ReadMeets}
 use Rattle.record.proofs.Demand1.{write_meets, read_meets}
 use Rattle.logging.specs.Logging.{record_from}
@@ -32,7 +32,7 @@ module _ (shot w h : ℕ) (answer out : List ℕ) where
         changes = λ e. absurd (omega arith);
       }
 
-  by_writer : 40 ≤ length answer → (x : Written) → WriteMeets form_nF (record_from shot w h answer) out x
+  by_writer : 40 ≤ length answer → (x : Written) → WriteMeets form_nf (record_from shot w h answer) out x
       → WriteAtC shot w h answer out x
   by_writer l x m =
       record {
@@ -58,7 +58,7 @@ module _ (shot w h : ℕ) (answer out : List ℕ) where
   pub write_meets_at_c : WriteMeetsAtC shot w h answer out
   write_meets_at_c = elim (le_or_lt 40 (length answer)) [
     | inl l ↦ subst (WriteAtC shot w h answer out) (sym (from_40 shot w h answer out l))
-        (by_writer l (written_as form_nF (record_from shot w h answer) out) (write_meets form_nF (record_from shot w h answer) out))
+        (by_writer l (written_as form_nf (record_from shot w h answer) out) (write_meets form_nf (record_from shot w h answer) out))
     | inr l ↦ subst (WriteAtC shot w h answer out) (sym (under_40 shot w h answer out l)) (short_slice l)
   ]
 
@@ -78,12 +78,12 @@ module _ (bytes fields : List ℕ) where
         changes = λ e. absurd (omega arith);
       }
 
-  module _ (l : 10 ≤ length fields) (x : Reading) (m : ReadMeets form_nF bytes x) where
+  module _ (l : 10 ≤ length fields) (x : Reading) (m : ReadMeets form_nf bytes x) where
     abbrev number : ℕ
     number = (shown_in fields x).number
 
     abbrev found : Record
-    found = record_in form_nF bytes
+    found = record_in form_nf bytes
 
     shows : {y : Reading} → x ≡ y → shown_in fields x ≡ shown_in fields y
     shows e = ap (shown_in fields) e
@@ -143,6 +143,6 @@ module _ (bytes fields : List ℕ) where
   pub read_meets_at_c : ReadMeetsAtC bytes fields
   read_meets_at_c = elim (le_or_lt 10 (length fields)) [
     | inl l ↦ subst (ReadAtC bytes fields) (sym (from_10 bytes fields l))
-        (by_reader l (read_as form_nF bytes) (read_meets form_nF bytes))
+        (by_reader l (read_as form_nf bytes) (read_meets form_nf bytes))
     | inr l ↦ subst (ReadAtC bytes fields) (sym (under_10 bytes fields l)) (few_fields l)
   ]

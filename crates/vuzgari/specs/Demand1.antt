@@ -7,7 +7,7 @@ use Rattle.answer.specs.Fields.{answer_bytes}
 use Rattle.noise.specs.Call.{cleared_ints, cleared_floats, left_ints, left_floats}
 use Rattle.noise.specs.Demand1.{Meets}
 use Rattle.record.specs.Rule.{Allowed}
-use Rattle.record.specs.Records.{form_nF, fields_of, bytes_as, record_in, Written}
+use Rattle.record.specs.Records.{form_nf, fields_of, bytes_as, record_in, Written}
 use Rattle.record.specs.Demand1.{Marked}
 use Rattle.logging.specs.Logging.{record_from}
 use Rattle.vuzgari.specs.Noise.{short_for, noise_for, left_bytes}
@@ -43,7 +43,7 @@ pub record WriteAtC (shot w h : ℕ) (answer out : List ℕ) (x : Written) : Typ
   -- a refused call changes no byte
   pub stays : (x.number ≡ 0 → ⊥) → x.bytes ≡ out
   -- else the record's bytes stand in front of those that were beyond
-  pub changes : x.number ≡ 0 → x.bytes ≡ bytes_as form_nF (record_from shot w h answer) ++ drop 35 out
+  pub changes : x.number ≡ 0 → x.bytes ≡ bytes_as form_nf (record_from shot w h answer) ++ drop 35 out
 
 -- reading the record in front of `bytes` into lent fields
 pub record ReadAtC (bytes fields : List ℕ) (x : Shown) : Type 0 where
@@ -51,15 +51,15 @@ pub record ReadAtC (bytes fields : List ℕ) (x : Shown) : Type 0 where
   pub only : (x.number ≡ 0) ⊎ (x.number ≡ 4) ⊎ (x.number ≡ 17) ⊎ (x.number ≡ 18) ⊎ (x.number ≡ 19)
   pub four : (x.number ≡ 4) ↔ (length fields < 10)
   pub cut_short : (x.number ≡ 18) ↔ ((10 ≤ length fields) × (length bytes < 35))
-  pub mark : (x.number ≡ 17) ↔ ((10 ≤ length fields) × (35 ≤ length bytes) × (Marked form_nF bytes → ⊥))
+  pub mark : (x.number ≡ 17) ↔ ((10 ≤ length fields) × (35 ≤ length bytes) × (Marked form_nf bytes → ⊥))
   pub broken : (x.number ≡ 19)
-      ↔ ((10 ≤ length fields) × (35 ≤ length bytes) × Marked form_nF bytes × (Allowed (record_in form_nF bytes) → ⊥))
+      ↔ ((10 ≤ length fields) × (35 ≤ length bytes) × Marked form_nf bytes × (Allowed (record_in form_nf bytes) → ⊥))
   pub given : (x.number ≡ 0)
-      ↔ ((10 ≤ length fields) × (35 ≤ length bytes) × Marked form_nF bytes × Allowed (record_in form_nF bytes))
+      ↔ ((10 ≤ length fields) × (35 ≤ length bytes) × Marked form_nf bytes × Allowed (record_in form_nf bytes))
   -- a refused call changes no field
   pub stays : (x.number ≡ 0 → ⊥) → x.fields ≡ fields
   -- else the record's ten fields stand in front of those that were beyond
-  pub changes : x.number ≡ 0 → x.fields ≡ fields_of (record_in form_nF bytes) ++ drop 10 fields
+  pub changes : x.number ≡ 0 → x.fields ≡ fields_of (record_in form_nf bytes) ++ drop 10 fields
 
 abbrev pub WriteMeetsAtC : ℕ → ℕ → ℕ → List ℕ → List ℕ → Type 0
 WriteMeetsAtC shot w h answer out = WriteAtC shot w h answer out (written_for shot w h answer out)

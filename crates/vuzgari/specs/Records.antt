@@ -2,13 +2,13 @@
 use Rattle.std.specs.Prelude.{cond, List, ◌++◌, ℕ, ltb, length, drop}
 use Rattle.record.specs.declared.Reading.{Reading}
 use Rattle.record.specs.declared.Reading.TheVariants.{Given, Refused}
-use Rattle.record.specs.Records.{form_nF, fields_of, Written, written_as, read_as}
+use Rattle.record.specs.Records.{form_nf, fields_of, Written, written_as, read_as}
 use Rattle.logging.specs.Logging.{record_from}
 
 -- 4 where the answer slice is under 40 bytes; else the record of its bytes, written
 unfoldable pub written_for : ℕ → ℕ → ℕ → List ℕ → List ℕ → Written
 written_for shot w h answer out =
-    cond (ltb (length answer) 40) (record { number = 4; bytes = out }) (written_as form_nF (record_from shot w h answer) out)
+    cond (ltb (length answer) 40) (record { number = 4; bytes = out }) (written_as form_nf (record_from shot w h answer) out)
 
 -- a number, 0 for none, and the lent fields as they are then
 pub record Shown : Type 0 where
@@ -23,4 +23,4 @@ shown_in fields (Refused n) = record { number = n; fields = fields }
 -- 4 where under ten fields are lent; else what the bytes hold
 unfoldable pub read_for : List ℕ → List ℕ → Shown
 read_for bytes fields =
-    cond (ltb (length fields) 10) (record { number = 4; fields = fields }) (shown_in fields (read_as form_nF bytes))
+    cond (ltb (length fields) 10) (record { number = 4; fields = fields }) (shown_in fields (read_as form_nf bytes))

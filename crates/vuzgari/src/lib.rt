@@ -1,4 +1,6 @@
 // The calls that the capture program makes from C. A lent slice is two arguments there, a pointer and the number of elements.
+#![tactic(auto)]
+
 ghost use Rattle.std.specs.Prelude.{◌≡◌, [], ◌∷◌, ◌++◌, ◌≤◌, length, drop};
 ghost use Rattle.grid.specs.Needed.{sizing_of};
 ghost use Rattle.edge.specs.Edge.{edge};
@@ -14,8 +16,7 @@ use record::Reading;
 use tile::EdgeWidth;
 
 // M for an image of w by h, or 4,294,967,296 plus the number of a refusal. The noise call needs 3M i32 and 2M + 2 f32.
-#[unsafe(no_mangle)]
-pub extern "C" fn vuzgari_noise_windows(w: usize, h: usize) -> u64
+pub fn vuzgari_noise_windows(w: usize, h: usize) -> u64
     ensures { result ≡ size_code (sizing_of w h) }
 {
     let size = grid::sizing(w, h);
@@ -27,8 +28,7 @@ pub extern "C" fn vuzgari_noise_windows(w: usize, h: usize) -> u64
 }
 
 // The noise call: its number, and after 0, 5, 6 or 7 the answer in the first 40 bytes of `out`.
-#[unsafe(no_mangle)]
-pub extern "C" fn vuzgari_noise(
+pub fn vuzgari_noise(
     pixels: &[u8],
     w: usize,
     h: usize,
@@ -68,8 +68,7 @@ fn width_code(e: EdgeWidth) -> u64
 }
 
 // The edge call for C, with origin (ox, oy) and centre (cx, cy): the width's bits, or 4,294,967,296 plus the number.
-#[unsafe(no_mangle)]
-pub extern "C" fn vuzgari_edge_width(
+pub fn vuzgari_edge_width(
     pixels: &[u8],
     width: usize,
     height: usize,
@@ -85,14 +84,7 @@ pub extern "C" fn vuzgari_edge_width(
 
 // Writes the record of a shot from the image's sides and the answer slice as the noise call left it: 4 where that has under 40
 // bytes, then 19, then 18. A refused call changes nothing; bytes past 35 stay.
-#[unsafe(no_mangle)]
-pub extern "C" fn vuzgari_record_write(
-    shot: u32,
-    w: usize,
-    h: usize,
-    answer: &[u8],
-    out: &mut [u8],
-) -> u32
+pub fn vuzgari_record_write(shot: u32, w: usize, h: usize, answer: &[u8], out: &mut [u8]) -> u32
     ensures { (result ≡ (written_for shot w h answer.now out.old).number)
         × (out.new ≡ (written_for shot w h answer.now out.old).bytes) }
 {
@@ -118,8 +110,7 @@ fn show_fields(fields: &mut [u64], xs: &[u64])
 
 // Reads the record at the front of `bytes` into ten fields: 4 where fewer are lent, then 18, 17, 19. A refused call changes
 // nothing; fields past ten stay, and bytes past 35 are not read.
-#[unsafe(no_mangle)]
-pub extern "C" fn vuzgari_record_read(bytes: &[u8], fields: &mut [u64]) -> u32
+pub fn vuzgari_record_read(bytes: &[u8], fields: &mut [u64]) -> u32
     ensures { (result ≡ (read_for bytes.now fields.old).number)
         × (fields.new ≡ (read_for bytes.now fields.old).fields) }
 {
@@ -138,8 +129,7 @@ pub extern "C" fn vuzgari_record_read(bytes: &[u8], fields: &mut [u64]) -> u32
 
 // Reads the header of a grey file from its first bytes into four fields: 4 where fewer are lent, then 20. A refused call changes
 // nothing; fields past four stay.
-#[unsafe(no_mangle)]
-pub extern "C" fn vuzgari_pgm_header(front: &[u8], fields: &mut [u64]) -> u32
+pub fn vuzgari_pgm_header(front: &[u8], fields: &mut [u64]) -> u32
     ensures { (result ≡ (header_in front.now fields.old).number)
         × (fields.new ≡ (header_in front.now fields.old).fields) }
 {
@@ -157,8 +147,7 @@ pub extern "C" fn vuzgari_pgm_header(front: &[u8], fields: &mut [u64]) -> u32
 }
 
 // Judges a grey file of `len` bytes by its first bytes: 20, 21, 22, or 0 where it holds an image.
-#[unsafe(no_mangle)]
-pub extern "C" fn vuzgari_pgm_judge(front: &[u8], len: usize) -> u32
+pub fn vuzgari_pgm_judge(front: &[u8], len: usize) -> u32
     ensures { result ≡ number_for (front_read front.now len) }
 {
     match pgm::read_front(front, len) {

@@ -1,4 +1,6 @@
 // What is measured of a window.
+#![tactic(auto)]
+
 #[derive(Drop)]
 pub struct WindowStats {
     // component (0, 0)

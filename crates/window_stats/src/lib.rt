@@ -1,4 +1,6 @@
 // The figures of a 4 by 4 window: pixel sum, gate and operator output.
+#![tactic(auto)]
+
 ghost use Rattle.std.specs.Prelude.{◌≡◌, [], ◌∷◌, ◌+◌, ◌*◌, ◌<◌, ◌≤◌, length};
 ghost use Rattle.laws.specs.Lists.{Each, Each²};
 ghost use Rattle.window.specs.Window.{Pixel, of_rows, pixels_at, stats_of};

@@ -1,0 +1,12 @@
+use mathlib.Core.Path.{refl}
+use lib.Ieee.{of_bits}
+use Rattle.laws.proofs.Fill.{front_put}
+use Rattle.clear.proofs.Fronts.{front_cleared}
+use Rattle.clear.proofs.clear_floats.Goals as goal
+
+pub loop-k-preserved : goal.loop-k-preserved
+unfolding of_bits
+loop-k-preserved c = front_put c.loop-k.invariant c.loop-k-test.true c.requires refl
+
+pub returns : goal.returns
+returns c = front_cleared c.loop-k.invariant c.loop-k-test.false

@@ -1,3 +1,0 @@
--- What is lent, of equal answers.
-pub mod Answers
-pub mod Ordered

@@ -1,0 +1,20 @@
+ghost use Rattle.std.specs.Prelude.{◌≤◌, length};
+ghost use Rattle.lid_bytes.specs.Report.{report_bytes};
+ghost use Rattle.text.specs.Placed.{Fronted};
+ghost use Rattle.grey.specs.Grey.{grey_output, grey_said};
+ghost use Rattle.grey.specs.Remark.{grey_remark_bytes};
+
+// Answers how long its lines are; `said` holds at exit how long the remark is.
+#[unsafe(no_mangle)]
+pub extern "C" fn vuzgari_compare_pgmnoise(
+    input: &[u8],
+    out: &mut [u8],
+    remark: &mut [u8],
+    said: &mut usize,
+) -> usize
+    requires { (report_bytes ≤ length out.old) × (grey_remark_bytes ≤ length remark.old) }
+    ensures fronted { Fronted out.old (grey_output input.now) result out.new }
+    ensures fronted_2 { Fronted remark.old (grey_said input.now) said.new remark.new }
+{
+    compare::grey_files::vuzgari_compare_pgmnoise(input, out, remark, said)
+}

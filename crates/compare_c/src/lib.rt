@@ -1,0 +1,11 @@
+// What compare offers, as C calls: each calls its namesake there, under its clauses.
+#![tactic(auto)]
+
+mod bands;
+mod covariance_model;
+mod floats;
+mod grey_files;
+mod grids;
+mod pixel_gradients;
+mod samples;
+mod windows;

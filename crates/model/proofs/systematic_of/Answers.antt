@@ -1,0 +1,12 @@
+-- Each way out is the one that the denominator's test chooses. Assumes nothing.
+use lib.Ieee.{of_bits}
+use Rattle.model.proofs.Formulas.{nothing_said, something_said}
+use Rattle.model.proofs.systematic_of.Goals as goal
+
+pub returns-then-denom : goal.returns-then-denom
+unfolding of_bits
+returns-then-denom c = let a = c.args in nothing_said a.g a.rho a.floor a.offset a.grid c.uniform_variance-prior.ensures c.if-denom.true c.about_of.ensures
+
+pub returns : goal.returns
+unfolding of_bits
+returns c = let a = c.args in something_said a.g a.rho a.floor a.offset a.grid c.uniform_variance-prior.ensures c.if-denom.false c.about_of-2.ensures

@@ -1,0 +1,73 @@
+// A program's standard streams: input read as far as there is room, words after the program's name, and what went wrong.
+#![tactic(auto)]
+
+ghost use Rattle.std.specs.Prelude.{◌≡◌, ◌<◌, ◌≤◌, length, take, None};
+ghost use Rattle.std.specs.Io.KnownBytes.{Consumes, IsAtEnd};
+
+use arrayvec::ArrayString;
+use std::env::{Env, FillError};
+use std::fmt::Write;
+use std::io::{Eprint, Error, Read};
+
+// As many bytes as the system's words for an error may take.
+const WORD_BYTES: usize = 300;
+
+// How many bytes stand at the front of the room, and why there are no more where a read failed.
+#[derive(Drop)]
+pub struct Filled {
+    pub count: usize,
+    pub failed: Option<Error>,
+}
+
+// Reads until the room is full, the input ends or a read fails. A read that a signal interrupts counts as one that failed.
+pub fn read_full<R: Read>(input: &mut R, room: &mut [u8]) -> Filled
+    ensures in_bounds { result.count ≤ length room.new }
+    ensures taken { Consumes (R.remaining input.old) (R.remaining input.new) (take result.count room.new) }
+    ensures ended { result.failed ≡ None → result.count < length room.new → IsAtEnd (R.remaining input.new) }
+{
+    let mut count = 0;
+    while count < room.len() {
+        match input.read(&mut room[count..]) {
+            Ok(0) => {
+                return Filled {
+                    count,
+                    failed: None,
+                };
+            }
+            Ok(n) => count += n,
+            Err(why) => {
+                return Filled {
+                    count,
+                    failed: Some(why),
+                };
+            }
+        }
+    }
+    Filled {
+        count,
+        failed: None,
+    }
+}
+
+// Whether a word stands after the program's name.
+pub fn has_words(rt: &impl Env) -> bool {
+    let mut room = [0u8; 1];
+    match rt.arg(1, &mut room) {
+        Ok(_) => true,
+        Err(FillError::TooLong) => true,
+        Err(FillError::NotPresent) => false,
+    }
+}
+
+// Says on standard error that `what` failed, and why in the system's words, without its number. Where that cannot be written,
+// nothing is said.
+pub fn complain(rt: &impl Eprint, what: &str, why: Error) {
+    let mut text = ArrayString::<WORD_BYTES>::new();
+    let _ = write!(text, "{why}");
+    let whole = text.as_str();
+    let word = match whole.split_once(" (os error ") {
+        Some((word, _)) => word,
+        None => whole,
+    };
+    let _ = eprintln!(rt; "{what}: {word}");
+}

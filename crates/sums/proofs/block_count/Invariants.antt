@@ -1,0 +1,11 @@
+-- `block_count` meets its contract. After k windows the count is that of the first k. Assumes nothing.
+use Rattle.std.proofs.Common.{ℕ, ◌+◌, ◌-◌}
+use Rattle.sums.proofs.Counts.{Tallied}
+use Rattle.sums.proofs.Sums.{kept}
+use Rattle.sums.proofs.block_count.Given as goal
+
+abbrev pub invariant-loop-k : goal.invariant-loop-k
+invariant-loop-k l = Tallied (λ (i : ℕ). kept l.t l.c l.gate l.op (l.a + i)) l.m l.n l.k
+
+abbrev pub decreases-loop-k : goal.decreases-loop-k
+decreases-loop-k l = l.m - l.k
