@@ -99,7 +99,8 @@ fn sources(folder: &str, extension: &str) -> String {
 }
 
 /// A function of a crate: its name as callers write it, whether it is public, whether it requires and ensures something, and whether
-/// it gives something back (a result or what it is lent) that no `ensures` speaks of.
+/// it gives something back (a result or what it is lent) that no `ensures` speaks of. What a function does through a handle, as
+/// `rt: &impl Print`, no clause can say.
 #[derive(Default)]
 struct Function {
     name: String,
@@ -158,26 +159,30 @@ fn closed(tokens: &[String], from: usize) -> usize {
 fn function(tokens: &[String], from: usize) -> (Function, usize) {
     let is = |k: usize, word: &str| tokens.get(k).is_some_and(|token| token == word);
     let mut f = Function { name: tokens[from].clone(), ..Function::default() };
-    let (mut result, mut lent, mut told) = (false, false, false);
+    // A clause may have a name, which stands between its word and its braces.
+    let clause = |k: usize, word: &str| is(k - 1, word) || is(k - 2, word);
+    let (mut result, mut lent, mut told, mut handle) = (false, false, false, false);
     let mut k = from + 1;
     while k < tokens.len() && !is(k, ";") {
         let end = if ["(", "[", "{"].contains(&tokens[k].as_str()) { closed(tokens, k) } else { k + 1 };
         let inner = &tokens[k + 1..end.max(k + 1)];
         match tokens[k].as_str() {
-            "{" if is(k - 1, "requires") => f.requires = true,
-            "{" if is(k - 1, "ensures") => {
+            "{" if clause(k, "requires") => f.requires = true,
+            "{" if clause(k, "ensures") => {
                 f.ensures = true;
-                // λ r. and a use of r
-                told |= inner.get(1).is_some_and(|r| inner[2..].contains(r));
+                told |= inner.iter().any(|token| token == "result");
             }
             "{" => break,
-            "(" if !result => lent |= (1..inner.len()).any(|k| inner[k] == "mut" && (inner[k - 1] == "&" || k > 1 && inner[k - 2] == "'")),
+            "(" if !result => {
+                handle |= inner.iter().any(|token| token == "impl");
+                lent |= (1..inner.len()).any(|k| inner[k] == "mut" && (inner[k - 1] == "&" || k > 1 && inner[k - 2] == "'"));
+            }
             ">" if is(k - 1, "-") => result = !(is(k + 1, "(") && is(k + 2, ")")),
             _ => {}
         }
         k = end;
     }
-    f.untold = result && !told || lent && !f.ensures;
+    f.untold = !handle && (result && !told || lent && !f.ensures);
     (f, k)
 }
 
@@ -346,15 +351,16 @@ fn listed(ledger: &mut Ledger, at: usize, line: &str, entries: bool, crates: &[S
 fn dependencies(ledger: &mut Ledger) {
     let text = read(CRATES).unwrap_or_default();
     for (k, line) in text.lines().enumerate() {
-        let Some((name, rest)) = line.split('#').next().unwrap_or("").split_once(':') else { continue };
+        let Some((head, rest)) = line.split('#').next().unwrap_or("").split_once(':') else { continue };
+        // a static library says so behind its name
+        let name = head.split_whitespace().next().unwrap_or("");
         let code = sources(&format!("crates/{name}/src"), ".rt");
         let logic = sources(&format!("crates/{name}/specs"), ".antt") + &sources(&format!("crates/{name}/proofs"), ".antt");
-        // io stands on libc, and both are listed where io is used
-        for other in rest.split_whitespace().filter(|other| *other != "libc") {
+        for other in rest.split_whitespace() {
             let word = |text: &str, mark: &str| {
                 text.match_indices(mark).any(|(at, _)| !text[..at].ends_with(|c: char| c.is_alphanumeric() || c == '_' || c == ':'))
             };
-            let used = word(&code, &format!("{other}::")) || (code.clone() + &logic).contains(&format!("Rattle·{other}."));
+            let used = word(&code, &format!("{other}::")) || code.contains(&format!("use {other};")) || (code.clone() + &logic).contains(&format!("Rattle.{other}."));
             if !used {
                 ledger.faults.push(format!("{CRATES}:{}: {name} names {other} as a dependency, and uses nothing of it", k + 1));
             }
@@ -396,8 +402,8 @@ fn main() {
             if f.untold {
                 ledger.faults.push(format!("crates/{name}/src: no ensures of the public function {full} speaks of what it gives back"));
             }
-            if name == "vuzgari" && f.requires {
-                ledger.faults.push(format!("crates/vuzgari/src: the C call {full} requires something"));
+            if ["vuzgari", "vuzgari_c"].contains(&name.as_str()) && f.requires {
+                ledger.faults.push(format!("crates/{name}/src: the C call {full} requires something"));
             }
         }
     }
