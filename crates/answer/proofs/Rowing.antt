@@ -4,7 +4,7 @@ use Prim.Native.Nat.{ℕ, ◌+◌, ◌*◌, ◌≤◌, ◌<◌}
 use mathlib.Core.List.{List, ◌++◌}
 use native.Mathlib.Omega.{arith}
 use lib.ListN.{length, get_or, take, drop}
-use Rattle.laws.proofs.Fill.{Rows, rows_start, rows_put, rows_end}
+use Rattle.laws.proofs.Fill.{Rows, rows_put, rows_end}
 use Rattle.laws.specs.Lists.{laid}
 use Rattle.little_endian.specs.Bytes.{bytes_of}
 use Rattle.little_endian.proofs.Laws.{length_bytes}
@@ -14,9 +14,6 @@ pub record Written (words out₀ : List ℕ) (k : ℕ) (out : List ℕ) : Type 0
   pub rows : Rows (λ i. bytes_of 4 (get_or words i 0)) out₀ 10 (k * 4) k out
 
 module _ {words out₀ : List ℕ} where
-  pub written_start : Written words out₀ 0 out₀
-  written_start = record { rows = rows_start }
-
   pub written_turn : {k v : ℕ} {out out' : List ℕ} → 40 ≤ length out₀ → k < 10 → v ≡ get_or words k 0 → out' ≡ laid out (k * 4) (bytes_of 4 v)
       → Written words out₀ k out → Written words out₀ (k + 1) out'
   written_turn {k} {v} {out} {out'} room h e w r =

@@ -4,6 +4,7 @@
 ghost use Rattle.std.specs.Prelude.{◌≡◌, ◌++◌, ◌≤◌, length, drop};
 ghost use Rattle.answer.specs.Fields.{words_of, bytes_of_words, answer_bytes};
 
+// Ten flat fields, a number beside sigma: the layout that C reads.
 #[derive(Drop)]
 pub struct Answer {
     // 0, or the number of document 01 that says why there is no sigma
@@ -37,11 +38,8 @@ fn put_words(out: &mut [u8], words: [u32; 10])
     requires { 40 ≤ length out.old }
     ensures { out.new ≡ bytes_of_words words ++ drop 40 out.old }
 {
-    let mut k = 0;
-    while k < 10 {
-        let x = words[k];
-        little_endian::put(out, k * 4, 4, laws::wide(x));
-        k += 1;
+    for (k, x) in words.iter().enumerate() {
+        little_endian::put(out, k * 4, 4, u64::from(*x));
     }
 }
 

@@ -1,11 +1,12 @@
 -- Counting by band: what is counted and what is still to count make up the whole; the counts add up to all windows. Assumes nothing.
-use mathlib.Core.Path.{◌≡◌, refl, ap, ◌∙◌}
+use Rattle.std.proofs.Common.{Option, Some, None}
+use mathlib.Core.Path.{◌≡◌, refl, ap, ◌∙◌, subst}
 use mathlib.Core.Bool.{Bool, true, false, cond, ◌&&◌}
 use mathlib.Core.List.{List, [], ◌∷◌}
 use Prim.Native.Nat.{ℕ, zero, suc, ◌+◌, ◌-◌, ◌/◌, ◌≤◌, ◌<◌}
 use native.Mathlib.Omega.{arith}
-use borrow.Author.Tests.{leb-true}
-use lib.Dec.{eqb, leb}
+use borrow.Author.Tests.{leb-true, ltb-true, ltb-false}
+use lib.Dec.{eqb, leb, ltb}
 use mir.Val.{bool_byte}
 use lib.ListN.{length, get_or, length-append}
 use lib.IntN.{ℤ, pos, negsuc}
@@ -13,7 +14,7 @@ use Rattle.laws.specs.Lists.{from, joined}
 use Rattle.laws.proofs.Fill.{from_more, from_none, length_from}
 use Rattle.window.specs.declared.WindowStats.{WindowStats}
 use Rattle.measure.specs.Columns.{figure_in, figures_in}
-use Rattle.band.specs.Bands.{rail, band_of, of_band, count_of, kept_of, sample_of}
+use Rattle.band.specs.Bands.{rail, band_of, kept_band, of_band, count_of, kept_of, sample_of}
 use Rattle.band.specs.declared.Sample.{Sample}
 
 pub count_cons : (b : ℕ) (f : WindowStats) (fs : List WindowStats) → count_of b (f ∷ fs) ≡ bool_byte (eqb (band_of f.sum) b) + count_of b fs
@@ -33,7 +34,7 @@ count_most b (f ∷ fs) = omega (arith, count_cons b f fs, count_most b fs, byte
 
 -- ---- counts and rail make up all windows
 
-band_most : (z : ℤ) → band_of z ≤ rail
+pub band_most : (z : ℤ) → band_of z ≤ rail
 unfolding band_of
 band_most (pos n) = go (leb 192 n) (leb n 3888) refl
   where
@@ -42,6 +43,28 @@ band_most (pos n) = go (leb 192 n) (leb n 3888) refl
     go true false e = omega arith
     go false t e = omega arith
 band_most (negsuc n) = omega arith
+
+-- a band that keeps its windows is one of four, and rail is the fifth
+module _ (x : ℕ) where
+  pub kept_some : (b : ℕ) → kept_band x ≡ Some b → (x ≡ b) × (b < rail)
+  kept_some b = go (ltb x rail) refl
+    where
+      go : (v : Bool) → ltb x rail ≡ v → cond v (Some x) None ≡ Some b → (x ≡ b) × (b < rail)
+      go true e q = let p : x ≡ b = cc in (p, subst (λ (n : ℕ). n < rail) p (ltb-true x rail e))
+      go false e q = absurd (apart q)
+        where
+          apart : ◌≡◌ {A = Option ℕ} None (Some b) → ⊥
+          apart q = cc
+
+  pub kept_none : kept_band x ≡ None → rail ≤ x
+  kept_none = go (ltb x rail) refl
+    where
+      go : (v : Bool) → ltb x rail ≡ v → cond v (Some x) None ≡ None → rail ≤ x
+      go true e q = absurd (apart q)
+        where
+          apart : ◌≡◌ {A = Option ℕ} (Some x) None → ⊥
+          apart q = cc
+      go false e q = ltb-false x rail e
 
 once : (n : ℕ) → n ≤ rail → bool_byte (eqb n 0) + bool_byte (eqb n 1) + bool_byte (eqb n 2) + bool_byte (eqb n 3) + bool_byte (eqb n rail) ≡ 1
 once zero h = refl

@@ -1,5 +1,5 @@
 -- Bands: document 01, "Bands".
-use Rattle.std.specs.Prelude.{cond, ◌&&◌, List, [], ◌∷◌, ℕ, ◌/◌, leb, eqb, length, ℤ, pos, negsuc}
+use Rattle.std.specs.Prelude.{cond, ◌&&◌, List, [], ◌∷◌, ℕ, ◌/◌, leb, ltb, eqb, length, Option, Some, None, ℤ, pos, negsuc}
 use Rattle.laws.specs.Lists.{joined}
 use Rattle.window.specs.declared.WindowStats.{WindowStats}
 use Rattle.band.specs.declared.Sample.{Sample}
@@ -11,6 +11,10 @@ rail = 4
 unfoldable pub band_of : ℤ → ℕ
 band_of (pos n) = cond (leb 192 n && leb n 3888) (n / 1024) rail
 band_of (negsuc n) = rail
+
+-- a band, none for rail
+abbrev pub kept_band : ℕ → Option ℕ
+kept_band b = cond (ltb b rail) (Some b) None
 
 -- the windows of band b, in sampling order
 abbrev pub of_band : ℕ → List WindowStats → List WindowStats

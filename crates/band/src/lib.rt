@@ -3,12 +3,10 @@
 
 ghost use Rattle.std.specs.Prelude.{◌≡◌, ◌≤◌, length};
 ghost use Rattle.measure.specs.Columns.{figures_in};
-ghost use Rattle.band.specs.Bands.{band_of, sample_of};
+ghost use Rattle.band.specs.Bands.{band_of, kept_band, sample_of};
 
-// Intensity bands, by pixel sum: below 1,024, 2,048, 3,072 and above.
-pub const BANDS: usize = 4;
-
-// How many windows each band has, and how many are near the rails and dropped.
+// How many windows each intensity band has, by pixel sum: below 1,024, 2,048, 3,072 and above; and how many are near the rails
+// and dropped: the answer's five counts, each a field as C reads them.
 #[derive(Clone, Copy)]
 pub struct Sample {
     pub b0: usize,
@@ -18,49 +16,40 @@ pub struct Sample {
     pub rail: usize,
 }
 
-// The band of a window by its pixel sum, or `BANDS` near the rails, where clipping removes noise.
-pub fn band(sum: i32) -> usize
-    ensures { result ≡ band_of sum }
+// The band of a window by its pixel sum, none near the rails, where clipping removes noise.
+#[tactic(auto, unfolding(crate::specs::Bands::band_of))]
+pub fn band(sum: i32) -> Option<usize>
+    ensures { result ≡ kept_band (band_of sum) }
 {
-    if sum < 0 {
-        return BANDS;
-    }
-    let n = sum as usize;
-    if n < 192 {
-        return BANDS;
-    }
-    if n > 3_888 {
-        return BANDS;
-    }
-    n / 1_024
+    let n = usize::try_from(sum).ok()?;
+    (192..=3_888).contains(&n).then_some(n / 1_024)
 }
 
-// The bands of the t windows in ints, counted.
+// The bands of the t windows in ints, counted. t stands beside the slice, which holds their gates and outputs too: what is
+// promised is on whole windows.
 pub fn count(ints: &[i32], t: usize) -> Sample
     requires { t ≤ length ints.now }
     ensures { result ≡ sample_of (figures_in t ints.now) }
 {
-    let mut b0: usize = 0;
-    let mut b1: usize = 0;
-    let mut b2: usize = 0;
-    let mut b3: usize = 0;
-    let mut rail: usize = 0;
-    let mut k = 0;
-    while k < t {
-        let sum = ints[k];
-        let b = band(sum);
-        b0 += (b == 0) as usize;
-        b1 += (b == 1) as usize;
-        b2 += (b == 2) as usize;
-        b3 += (b == 3) as usize;
-        rail += (b == BANDS) as usize;
-        k += 1;
+    let mut b0 = 0;
+    let mut b1 = 0;
+    let mut b2 = 0;
+    let mut b3 = 0;
+    let mut rail = 0;
+    // Five sums without a jump, so that several windows are counted by one instruction.
+    for sum in &ints[..t] {
+        let b = band(*sum);
+        b0 += usize::from(b == Some(0));
+        b1 += usize::from(b == Some(1));
+        b2 += usize::from(b == Some(2));
+        b3 += usize::from(b == Some(3));
+        rail += usize::from(b == None);
     }
     Sample {
-        b0: b0,
-        b1: b1,
-        b2: b2,
-        b3: b3,
-        rail: rail,
+        b0,
+        b1,
+        b2,
+        b3,
+        rail,
     }
 }

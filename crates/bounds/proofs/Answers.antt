@@ -25,11 +25,13 @@ use Rattle.band.specs.Bands.{banded, sample_of}
 use Rattle.band.proofs.Counting.{kept_most}
 use Rattle.sample.specs.Laid.{gate32, gates_of, squares_of}
 use Rattle.sample.proofs.Parts.{figures_long}
-use Rattle.milli.specs.Thousandths.{milli_of}
+use Rattle.std.specs.Prelude.{Result, Ok, Err, is_ok}
+use Rattle.numbers.specs.declared.Number.{Number}
+use Rattle.joining.specs.Joining.{figure_of}
 use Rattle.milli.proofs.Most.{milli_most}
 use Rattle.pass.specs.Pass.{starts_by, noise_in, pass_of}
 use Rattle.answer.specs.declared.Answer.{Answer}
-use Rattle.noise.specs.Answers.{ending_in, decided}
+use Rattle.noise.specs.Answers.{milli_in, ending_in, decided}
 use Rattle.noise.specs.Refusals.{refusal_of}
 use Rattle.noise.specs.Call.{refused, measured, noise_of}
 use Rattle.noise.proofs.Causes.{allowed}
@@ -64,14 +66,19 @@ module _ (fs : List WindowStats) (many : length fs ≤ 2 ^ 28) (h : Each Small f
   pass_sigma : SigmaBounded (noise_in fs).sigma
   pass_sigma = noise_bounded (gates_of fs) (squares_of fs) (starts_by (sample_of fs)) (le_trans (le_of_eq (length-map (banded fs) gate32)) (le_trans (kept_most fs) many)) (outputs fs h)
 
-  pass_fine : Fine (pass_of fs).sigma
+  pass_fine : Fine (figure_of (pass_of fs).sigma)
   unfolding pass_of
   pass_fine = (pass_sigma.fits, pass_sigma.bounded)
+
+  -- thousandths of such a sigma
+  few_thousandths : (s : Result Float Number) → Bounded (figure_of s) false sigma_most → milli_in s ≤ 1000 * sigma_most
+  few_thousandths (Ok x) b = milli_most x sigma_most b
+  few_thousandths (Err why) b = omega arith
 
   ending_sigma : (rounds passes : ℕ) → SigmaIsNumber (ending_in (pass_of fs) rounds passes)
   ending_sigma rounds passes =
       number_law (ending_in (pass_of fs) rounds passes) pass_fine
-      (cond_both (λ (k : ℕ). k ≤ 1000 * sigma_most) (eqb (pass_of fs).number 0) (milli_of (pass_of fs).sigma) 0 (milli_most (pass_of fs).sigma sigma_most pass_fine.1) (omega arith))
+      (few_thousandths (pass_of fs).sigma pass_fine.1)
 
 -- ---- a refusal
 refused_sigma : (number : ℕ) → SigmaIsNumber (refused number)
@@ -85,7 +92,7 @@ module _ (img : List ℕ) (bytes : (i : ℕ) → get_or img i 0 ≤ 255) (w h : 
   measured_sigma sides =
       let p = pass_of (figures_of img w h first_w) in
       let q = pass_of (figures_of img w h second_w) in
-      cond_both SigmaIsNumber (eqb p.number 0 || eqb (step_of (w * h) first_w) 1) (ending_in p p.rounds 1) (ending_in q (p.rounds + q.rounds) 2)
+      cond_both SigmaIsNumber (is_ok p.sigma || eqb (step_of (w * h) first_w) 1) (ending_in p p.rounds 1) (ending_in q (p.rounds + q.rounds) 2)
       (each first_w (lit≤ tt) p.rounds 1) (each second_w (lit≤ tt) (p.rounds + q.rounds) 2)
     where
       each : (windows : ℕ) → 1 ≤ windows → (rounds passes : ℕ) → SigmaIsNumber (ending_in (pass_of (figures_of img w h windows)) rounds passes)

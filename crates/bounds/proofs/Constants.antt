@@ -7,10 +7,10 @@ use lib.Dec.{T, lit≤, lit<}
 use lib.Ieee as Ieee
 use lib.Ieee.{Float, Format, binary32, binary64}
 use Rattle.ieee.proofs.Bounded.{Bounded, HoldsWhole, holds_whole}
+use Rattle.std.specs.Prelude.{Option, Some, None, Result}
+use Rattle.numbers.specs.declared.Number.{Number}
 use Rattle.rounds.specs.declared.Found.{Found}
-use Rattle.rounds.specs.declared.Found.TheVariants.{Variance, Missing}
 use Rattle.joining.specs.Joining.{figure_of}
-use Rattle.joining.specs.declared.Sigma.{Sigma}
 use Rattle.bounds.specs.Sigma.{sigma_most}
 
 -- a squared output is at most 8,160² = 66,585,600; f32 holds this number times every count up to 256, since 256 * 32,513 is below 2 ^ 24
@@ -31,12 +31,12 @@ abbrev pub OutputBounded : Float → Type 0
 OutputBounded x = Bounded x false output_most
 
 -- a variance that rests on no more than N windows, or none
-abbrev pub FoundBounded : ℕ → Found → Type 0
-FoundBounded N (Variance n var) = (n ≤ N) × Bounded var false variance_most
-FoundBounded N Missing = Unit {0}
+abbrev pub FoundBounded : ℕ → Option Found → Type 0
+FoundBounded N (Some f) = (f.n ≤ N) × Bounded f.var false variance_most
+FoundBounded N None = Unit {0}
 
 -- the figure of a sigma, zero where it has none, is an f32
-pub record SigmaBounded (s : Sigma) : Type 0 where
+pub record SigmaBounded (s : Result Float Number) : Type 0 where
   pub bounded : Bounded (figure_of s) false sigma_most
   pub fits : T (Ieee.fits binary32 (figure_of s))
 

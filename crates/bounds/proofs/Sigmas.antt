@@ -24,11 +24,12 @@ use Rattle.sums.specs.Admitted.{no_total}
 use Rattle.sums.specs.declared.Total.{Total}
 use Rattle.rounds.specs.Rounds.{band, image_variance}
 use Rattle.rounds.specs.declared.Settled.{Settled}
+use Rattle.std.specs.Prelude.{Option, Some, None, Ok, Err}
+use Rattle.numbers.specs.declared.Number.{Number}
+use Rattle.numbers.specs.declared.Number.TheVariants.{Few, NoBand, Thin}
 use Rattle.rounds.specs.declared.Found.{Found}
-use Rattle.rounds.specs.declared.Found.TheVariants.{Variance, Missing}
 use Rattle.joining.specs.Numbers.{operator_gain}
 use Rattle.joining.specs.Joining.{variances, median, outlier_limit, with_band, with_found, join_from, joined_bands, min_samples, deviation, sigma_of_total, sigma_of, band_at, founds, noise_under, noise}
-use Rattle.joining.specs.declared.Sigma.TheVariants.{Figure, Number}
 use Rattle.joining.specs.declared.Noise.{Noise}
 use Rattle.bounds.specs.Sigma.{sigma_most}
 use Rattle.bounds.proofs.Constants.{OutputBounded, FoundBounded, variance_most, SigmaBounded, holds_count, holds_joined, holds_variance, holds_root, root_most, holds_sigma}
@@ -55,11 +56,11 @@ module _ (N : ℕ) (small : N ≤ 2 ^ 28) (limit : Float) where
             (mul_bounded binary64 (n * variance_most) (holds_joined n (omega arith)) false false (f64_of n) var n variance_most (le_refl (n * variance_most)) (whole_bounded binary64 n (holds_count n (omega arith)) (pos n) (le_refl n)) v);
       }
 
-  with_found_lem : (j : ℕ) (k : Total) (f : Found) → suc j ≤ 4 → Joined N j k → FoundBounded N f → Joined N (suc j) (with_found limit k f)
-  with_found_lem j k (Variance n var) h J s = cond_both (Joined N (suc j)) (le var limit) (with_band k n var) k (with_band_lem j k n var h J s.0 s.1) (record { few = omega (arith, J.few); sum = J.sum })
-  with_found_lem j k Missing h J s = record { few = omega (arith, J.few); sum = J.sum }
+  with_found_lem : (j : ℕ) (k : Total) (f : Option Found) → suc j ≤ 4 → Joined N j k → FoundBounded N f → Joined N (suc j) (with_found limit k f)
+  with_found_lem j k (Some f) h J s = cond_both (Joined N (suc j)) (le f.var limit) (with_band k f.n f.var) k (with_band_lem j k f.n f.var h J s.0 s.1) (record { few = omega (arith, J.few); sum = J.sum })
+  with_found_lem j k None h J s = record { few = omega (arith, J.few); sum = J.sum }
 
-  join_from_lem : (j : ℕ) (k : Total) (bands : List Found) → j + length bands ≤ 4 → Joined N j k → Each (FoundBounded N) bands → Joined N 4 (join_from limit k bands)
+  join_from_lem : (j : ℕ) (k : Total) (bands : List (Option Found)) → j + length bands ≤ 4 → Joined N j k → Each (FoundBounded N) bands → Joined N 4 (join_from limit k bands)
   join_from_lem j k [] h J a = record { few = le_trans J.few (mul-le-mul_right N (go j h)); sum = J.sum }
     where
       go : (j : ℕ) → j + 0 ≤ 4 → j ≤ 4
@@ -91,22 +92,22 @@ module _ (N : ℕ) (small : N ≤ 2 ^ 28) where
   unfolding deviation
   deviation_fits k = convert_fits binary32 _
 
-  number_bounded : (n : ℕ) → SigmaBounded (Number n)
+  why_bounded : (why : Number) → SigmaBounded (Err why)
   unfolding fits
-  number_bounded n = record { bounded = plus_zero_bounded sigma_most; fits = tt }
+  why_bounded why = record { bounded = plus_zero_bounded sigma_most; fits = tt }
 
   decided_bounded : (k : Total) → Joined N 4 k → SigmaBounded (sigma_of_total k)
   unfolding sigma_of_total
   decided_bounded k J = go (ltb k.n min_samples) refl
     where
-      go : (b : Bool) → ltb k.n min_samples ≡ b → SigmaBounded (cond b (Number 7) (Figure (deviation k)))
-      go true e = number_bounded 7
+      go : (b : Bool) → ltb k.n min_samples ≡ b → SigmaBounded (cond b (Err Thin) (Ok (deviation k)))
+      go true e = why_bounded Thin
       go false e = record { bounded = deviation_bounded k (omega (arith, ltb-false k.n min_samples e)) J; fits = deviation_fits k }
 
-  sigma_bounded : (bands : List Found) → length bands ≤ 4 → Each (FoundBounded N) bands → SigmaBounded (sigma_of bands)
+  sigma_bounded : (bands : List (Option Found)) → length bands ≤ 4 → Each (FoundBounded N) bands → SigmaBounded (sigma_of bands)
   unfolding sigma_of joined_bands
   sigma_bounded bands h a =
-      cond_both SigmaBounded (eqb (length (variances bands)) 0) (Number 6) (sigma_of_total (joined_bands bands)) (number_bounded 6)
+      cond_both SigmaBounded (eqb (length (variances bands)) 0) (Err NoBand) (sigma_of_total (joined_bands bands)) (why_bounded NoBand)
       (decided_bounded (joined_bands bands) (join_from_lem N small (outlier_limit (median (variances bands))) 0 no_total bands (omega arith) (record { few = omega arith; sum = plus_zero_bounded (0 * variance_most) }) a))
 
 -- ---- sigma of a list of gates and one of bounded outputs, wherever the bands start
@@ -126,5 +127,5 @@ module _ (g o : List Float) (starts : List ℕ) (small : length g ≤ 2 ^ 28) (h
   pub noise_bounded : SigmaBounded (noise g o starts).sigma
   unfolding noise
   noise_bounded =
-      cond_both (λ (n : Noise). SigmaBounded n.sigma) (ltb (length g) min_samples) (record { sigma = Number 5; rounds = 0 }) (noise_under g o starts (image_variance g o starts))
-      (number_bounded (length g) small 5) (under_bounded (image_variance g o starts))
+      cond_both (λ (n : Noise). SigmaBounded n.sigma) (ltb (length g) min_samples) (record { sigma = Err Few; rounds = 0 }) (noise_under g o starts (image_variance g o starts))
+      (why_bounded (length g) small Few) (under_bounded (image_variance g o starts))

@@ -25,9 +25,10 @@ use Rattle.sums.specs.Start.{start}
 use Rattle.sums.specs.declared.Total.{Total}
 use Rattle.sums.proofs.Sums.{admitted_few}
 use Rattle.rounds.specs.Numbers.{max_band_ratio, trunc_second_moment}
-use Rattle.rounds.specs.Rounds.{next, near, settled_at, round_of, one_round, rounds_from, max_rounds, start_at, settle, band_total, min_band_samples, judged_band, band_by, band_variance}
+use Rattle.rounds.specs.Rounds.{next, near, settled_at, Round, round_of, ended, followed, one_round, rounds_from, max_rounds, start_at, settle, found_at, band_total, min_band_samples, judged_band, band_by, band_variance}
 use Rattle.rounds.specs.declared.Settled.{Settled}
-use Rattle.rounds.specs.declared.Found.TheVariants.{Variance, Missing}
+use Rattle.std.specs.Prelude.{Some, None}
+use Rattle.std.proofs.Common.{Break, Continue}
 use Rattle.rounds.specs.declared.BandVariance.{BandVariance}
 use Rattle.rounds.proofs.Turns.{max_rounds_is}
 use Rattle.rounds.proofs.Bounds.{settle_count}
@@ -65,24 +66,35 @@ abbrev Rests : Settled → Type 0
 Rests s = 0 < s.n → Bounded s.var false variance_most
 
 module _ (f : Float → Total) (fine : (v : Float) → Summed (f v)) where
-  round_rests : (s : Settled) → Rests (one_round (f s.var) s).settled
+  round_rests : (s : Settled) → Rests (ended (one_round (f s.var) s))
   unfolding one_round
   round_rests s = go (eqb (f s.var).n 0) refl
     where
       some : (n : ℕ) → (n ≡ 0 → ⊥) → 0 < n
       some n h = omega arith
 
+      either : (t : Settled) (last : Bool) → Rests t → Rests (ended (round_of t last))
+      either t true h = h
+      either t false h = h
+
       go : (b : Bool) → eqb (f s.var).n 0 ≡ b
-          → Rests (cond b (round_of (settled_at 0 s.var (s.rounds + 1)) true) (round_of (settled_at (f s.var).n (next (f s.var)) (s.rounds + 1)) (near (f s.var).n s.n (next (f s.var)) s.var))).settled
+          → Rests (ended (cond b (Break (settled_at 0 s.var (s.rounds + 1)))
+          (round_of (settled_at (f s.var).n (next (f s.var)) (s.rounds + 1)) (near (f s.var).n s.n (next (f s.var)) s.var))))
       go true e = λ p. absurd (lt_irrefl 0 p)
-      go false e = λ p. next_bounded (f s.var) (fine s.var) (some (f s.var).n (eqb-false (f s.var).n 0 e))
+      go false e =
+          either (settled_at (f s.var).n (next (f s.var)) (s.rounds + 1)) (near (f s.var).n s.n (next (f s.var)) s.var)
+          (λ p. next_bounded (f s.var) (fine s.var) (some (f s.var).n (eqb-false (f s.var).n 0 e)))
+
+  -- what follows a round, whatever comes after it
+  followed_rests : (more : Settled → Settled) → ((s : Settled) → Rests s → Rests (more s)) → (r : Round) → Rests (ended r) → Rests (followed more r)
+  followed_rests more h (Break t) p = p
+  followed_rests more h (Continue t) p = h t p
 
   rounds_rest : (left : ℕ) (s : Settled) → Rests s ⊎ (0 < left) → Rests (rounds_from f left s)
   rounds_rest zero s (inl h) = h
   rounds_rest zero s (inr h) = absurd (lt_irrefl 0 h)
   rounds_rest (suc left) s h =
-      cond_both Rests (one_round (f s.var) s).last (one_round (f s.var) s).settled (rounds_from f left (one_round (f s.var) s).settled)
-      (round_rests s) (rounds_rest left (one_round (f s.var) s).settled (inl (round_rests s)))
+      followed_rests (rounds_from f left) (λ t p. rounds_rest left t (inl p)) (one_round (f s.var) s) (round_rests s)
 
   settle_rests : (var : Float) → Rests (settle f var)
   unfolding settle
@@ -93,7 +105,7 @@ judged_bounded : (s : Settled) (image : Float) (N : ℕ) → s.n ≤ N → Rests
 unfolding judged_band
 judged_bounded s image N few h = go (leb min_band_samples s.n) (not (lt (mul binary64 max_band_ratio (larger image rounding_op_var)) s.var)) refl
   where
-    go : (a b : Bool) → leb min_band_samples s.n ≡ a → FoundBounded N (cond (a && b) (Variance s.n s.var) Missing)
+    go : (a b : Bool) → leb min_band_samples s.n ≡ a → FoundBounded N (cond (a && b) (Some (found_at s.n s.var)) None)
     go true true e = (few, h (omega (arith, leb-true min_band_samples s.n e)))
     go true false e = tt
     go false b e = tt
@@ -105,5 +117,5 @@ module _ (g o : List Float) (image : Float) (h : Each OutputBounded o) (N : ℕ)
   pub band_bounded : FoundBounded N (band_variance g o image).found
   unfolding band_variance
   band_bounded =
-      cond_both (λ (b : BandVariance). FoundBounded N b.found) (ltb (length g) min_band_samples) (record { found = Missing; rounds = 0 }) (band_by (settle (band_total g o) (start g o)) image)
+      cond_both (λ (b : BandVariance). FoundBounded N b.found) (ltb (length g) min_band_samples) (record { found = None; rounds = 0 }) (band_by (settle (band_total g o) (start g o)) image)
       tt (judged_bounded (settle (band_total g o) (start g o)) image N (settle_count (band_total g o) N (λ v. le_trans (admitted_few g o v v) few) (start g o)) (settle_rests (band_total g o) band_summed (start g o)))

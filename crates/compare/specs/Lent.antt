@@ -1,22 +1,24 @@
 -- Values that are lent by their parts, and answers in what is lent.
-use Rattle.std.specs.Prelude.{ℕ, ◌≡◌, List, [], ◌∷◌, ℤ, get_or, Float}
+use Rattle.std.specs.Prelude.{ℕ, ◌≡◌, List, [], ◌∷◌, ℤ, get_or, Float, Result}
 use Rattle.std.specs.Float.{nan}
-use Rattle.refine.specs.Covariance.{covariance, number, figures}
+use Rattle.numbers.specs.declared.Number.{Number}
+use Rattle.numbers.specs.Numbers.{number_in}
+use Rattle.refine.specs.Covariance.{covariance, figures}
 use Rattle.refine.specs.declared.PositionCovariance.{PositionCovariance}
-use Rattle.refine.specs.declared.Judged.{Judged}
 use Rattle.gradients.specs.declared.PixelGradients.{PixelGradients}
-use Rattle.gradients.specs.declared.Handed.{Handed}
+use Rattle.gradients.specs.declared.Unchanged.{Unchanged}
+use Rattle.gradients.specs.Gradients.{handed_number, handed_state}
 
 abbrev pub state : List ℤ → ℕ → List Float → List Float → PixelGradients
 state origin side gx gy = record { origin = origin; side = side; gx = gx; gy = gy }
 
 -- the number, and the parts of the state handed back
-pub record HandedBack (h : Handed) (number : ℕ) (origin : List ℤ) (side : ℕ) (gx gy : List Float) : Type 0 where
-  pub told : number ≡ h.number
-  pub of_origin : origin ≡ h.state.origin
-  pub of_side : side ≡ h.state.side
-  pub of_gx : gx ≡ h.state.gx
-  pub of_gy : gy ≡ h.state.gy
+pub record HandedBack (h : Result PixelGradients Unchanged) (number : ℕ) (origin : List ℤ) (side : ℕ) (gx gy : List Float) : Type 0 where
+  pub told : number ≡ handed_number h
+  pub of_origin : origin ≡ (handed_state h).origin
+  pub of_side : side ≡ (handed_state h).side
+  pub of_gx : gx ≡ (handed_state h).gx
+  pub of_gy : gy ≡ (handed_state h).gy
 
 abbrev pub covariance_from : List Float → PositionCovariance
 covariance_from l = covariance (get_or l 0 nan) (get_or l 1 nan) (get_or l 2 nan)
@@ -25,6 +27,6 @@ abbrev pub entries : PositionCovariance → List Float
 entries c = c.xx ∷ c.xy ∷ c.yy ∷ []
 
 -- the number, and the figures by their three floats
-pub record Told (j : Judged) (n : ℕ) (out : List Float) : Type 0 where
-  pub told : n ≡ number j
+pub record Told (j : Result PositionCovariance Number) (n : ℕ) (out : List Float) : Type 0 where
+  pub told : n ≡ number_in j
   pub laid : out ≡ entries (figures j)

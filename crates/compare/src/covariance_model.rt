@@ -8,17 +8,13 @@ ghost use Rattle.compare.specs.Models.{width_from, model_from, ToldAt, ToldModel
 
 use crate::covariances::{covariance_of, told};
 use covariance::CovarianceModel;
-use knots::Width;
-use model::{At, Modelled, SystematicModel};
+use model::{GainResidual, SystematicModel};
+use numbers::Number;
 
-fn width_of(known: bool, w: f32) -> Width
+fn width_of(known: bool, w: f32) -> Option<f32>
     ensures { result ≡ width_from known w }
 {
-    if known {
-        Width::Known(w)
-    } else {
-        Width::Unknown
-    }
+    known.then_some(w)
 }
 
 pub fn vuzgari_compare_at(
@@ -35,13 +31,10 @@ pub fn vuzgari_compare_at(
         (at_of (table count floor widths.now gains.now residuals.now) (width_from known w))
         result out.new }
 {
-    let a = *widths;
-    let b = *gains;
-    let c = *residuals;
     let s = SystematicModel {
-        widths: a,
-        gains: b,
-        residuals: c,
+        widths: *widths,
+        gains: *gains,
+        residuals: *residuals,
         count,
         floor,
     };
@@ -49,17 +42,17 @@ pub fn vuzgari_compare_at(
 }
 
 // The number, gain and residual.
-fn lay_at(answer: At, out: &mut [f32; 2]) -> u32
+fn lay_at(answer: Result<GainResidual, Number>, out: &mut [f32; 2]) -> u32
     ensures { ToldAt answer result out.new }
 {
     match answer {
-        At::Given(gain, residual) => {
-            *out = [gain, residual];
+        Ok(at) => {
+            *out = [at.gain, at.residual];
             0
         }
-        At::Refused(n) => {
-            *out = [0.0, 0.0];
-            n
+        Err(why) => {
+            *out = [0.0; 2];
+            u32::from(why)
         }
     }
 }
@@ -82,43 +75,45 @@ pub fn vuzgari_compare_model(
         (covariance_from noise.now) offset.now (width_from known w) grid)
         result out.new }
 {
-    let a = *widths;
-    let b = *gains;
-    let c = *residuals;
-    let u = *offset;
     let s = SystematicModel {
-        widths: a,
-        gains: b,
-        residuals: c,
+        widths: *widths,
+        gains: *gains,
+        residuals: *residuals,
         count,
         floor,
     };
     lay(
-        s.model(covariance_of(noise), u, width_of(known, w), grid),
+        s.model(covariance_of(noise), *offset, width_of(known, w), grid),
         out,
     )
 }
 
-// The number, and the model's eight floats.
-fn lay(answer: Modelled, out: &mut [f32; 8]) -> u32
+// The number, and the model's eight floats, zeros where there is none.
+fn lay(answer: Result<CovarianceModel, Number>, out: &mut [f32; 8]) -> u32
     ensures { ToldModel answer result out.new }
 {
-    let m = answer.model;
-    let d = m.noise;
-    let e = m.systematic;
-    let g = m.growth;
-    *out = [d.xx, d.xy, d.yy, e.xx, e.xy, e.yy, g[0], g[1]];
-    answer.number
+    match answer {
+        Ok(m) => {
+            let d = m.noise;
+            let e = m.systematic;
+            let g = m.growth;
+            *out = [d.xx, d.xy, d.yy, e.xx, e.xy, e.yy, g[0], g[1]];
+            0
+        }
+        Err(why) => {
+            *out = [0.0; 8];
+            u32::from(why)
+        }
+    }
 }
 
 fn model_of(noise: &[f32; 3], systematic: &[f32; 3], growth: &[f32; 2]) -> CovarianceModel
     ensures { result ≡ model_from noise.now systematic.now growth.now }
 {
-    let g = *growth;
     CovarianceModel {
         noise: covariance_of(noise),
         systematic: covariance_of(systematic),
-        growth: g,
+        growth: *growth,
     }
 }
 

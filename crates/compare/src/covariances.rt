@@ -2,19 +2,20 @@
 ghost use Rattle.std.specs.Prelude.{◌≡◌};
 ghost use Rattle.compare.specs.Lent.{covariance_from, Told};
 
-use refine::{Judged, PositionCovariance};
+use numbers::Number;
+use refine::PositionCovariance;
 
-pub fn told(answer: Judged, out: &mut [f32; 3]) -> u32
+pub fn told(answer: Result<PositionCovariance, Number>, out: &mut [f32; 3]) -> u32
     ensures { Told answer result out.new }
 {
     match answer {
-        Judged::Covariance(c) => {
+        Ok(c) => {
             *out = [c.xx, c.xy, c.yy];
             0
         }
-        Judged::Refused(n) => {
-            *out = [0.0, 0.0, 0.0];
-            n
+        Err(why) => {
+            *out = [0.0; 3];
+            u32::from(why)
         }
     }
 }

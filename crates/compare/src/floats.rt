@@ -40,19 +40,19 @@ pub fn vuzgari_compare_abs64(x: f64) -> f64
 pub fn vuzgari_compare_max32(a: f32, b: f32) -> f32
     ensures { result ≡ larger a b }
 {
-    float::max32(a, b)
+    float::max(a, b)
 }
 
 pub fn vuzgari_compare_max64(a: f64, b: f64) -> f64
     ensures { result ≡ larger a b }
 {
-    float::max64(a, b)
+    float::max(a, b)
 }
 
 pub fn vuzgari_compare_min32(a: f32, b: f32) -> f32
     ensures { result ≡ smaller a b }
 {
-    float::min32(a, b)
+    float::min(a, b)
 }
 
 pub fn vuzgari_compare_is_finite32(x: f32) -> bool
@@ -64,13 +64,13 @@ pub fn vuzgari_compare_is_finite32(x: f32) -> bool
 pub fn vuzgari_compare_total_less32(a: f32, b: f32) -> bool
     ensures { result ≡ total_less a b }
 {
-    float::total_less32(a, b)
+    float::total_less(a, b)
 }
 
 pub fn vuzgari_compare_total_less64(a: f64, b: f64) -> bool
     ensures { result ≡ total_less a b }
 {
-    float::total_less64(a, b)
+    float::total_less(a, b)
 }
 
 pub fn vuzgari_compare_milli(x: f32) -> u32

@@ -16,7 +16,7 @@ pub fn vuzgari_compare_pgmnoise(
     ensures fronted { Fronted out.old (grey_output input.now) result out.new }
     ensures fronted_2 { Fronted remark.old (grey_said input.now) said.new remark.new }
 {
-    let lengths: lid::Lengths = grey::pgmnoise(input, out, remark);
-    *said = lengths.remark;
-    lengths.output
+    let texts = grey::pgmnoise(input);
+    *said = text::front(remark, texts.remark.as_str());
+    text::front(out, texts.output.as_str())
 }

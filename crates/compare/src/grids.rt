@@ -4,11 +4,13 @@ ghost use Rattle.grid.specs.Step.{step_of};
 ghost use Rattle.grid.specs.Grid.{Sides, first_x, row_count, total_of};
 ghost use Rattle.grid.specs.Needed.{needed_of};
 
+use grid::Grid;
+
 pub fn vuzgari_compare_step(w: usize, h: usize, windows: usize) -> usize
     requires { Sides w h × (1 ≤ windows) }
     ensures { result ≡ step_of (w * h) windows }
 {
-    grid::step(w, h, windows)
+    Grid { w, h, windows }.step()
 }
 
 pub fn vuzgari_compare_first_x(j: usize, s: usize) -> usize
@@ -29,7 +31,7 @@ pub fn vuzgari_compare_windows(w: usize, h: usize, windows: usize) -> usize
     requires { Sides w h × (1 ≤ windows) }
     ensures { result ≡ total_of w h windows }
 {
-    grid::window_count(w, h, windows)
+    Grid { w, h, windows }.window_count()
 }
 
 pub fn vuzgari_compare_needed(w: usize, h: usize) -> usize

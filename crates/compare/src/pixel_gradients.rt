@@ -4,10 +4,10 @@ ghost use Rattle.gradients.specs.Gradients.{reset_of, add_of, covariance_of};
 ghost use Rattle.compare.specs.Lent.{state, HandedBack, Told};
 
 use crate::covariances::told;
-use gradients::{Handed, PixelGradients};
+use gradients::{PixelGradients, Unchanged};
 
 fn leave(
-    h: Handed,
+    h: Result<PixelGradients, Unchanged>,
     origin: &mut [i32; 2],
     side: &mut usize,
     gx: &mut [f32; 1024],
@@ -15,7 +15,10 @@ fn leave(
 ) -> u32
     ensures { HandedBack h result origin.new side.new gx.new gy.new }
 {
-    let s = h.state;
+    let (s, number) = match h {
+        Ok(state) => (state, 0),
+        Err(unchanged) => (unchanged.state, u32::from(unchanged.why)),
+    };
     let o = s.origin;
     let x = s.gx;
     let y = s.gy;
@@ -23,7 +26,7 @@ fn leave(
     *side = s.side;
     *gx = x;
     *gy = y;
-    h.number
+    number
 }
 
 pub fn vuzgari_compare_reset(
@@ -39,15 +42,11 @@ pub fn vuzgari_compare_reset(
         (reset_of (state origin.old side.old gx.old gy.old) (x ∷ y ∷ []) n)
         result origin.new side.new gx.new gy.new }
 {
-    let o = *origin;
-    let m = *side;
-    let a = *gx;
-    let b = *gy;
     let s = PixelGradients {
-        origin: o,
-        side: m,
-        gx: a,
-        gy: b,
+        origin: *origin,
+        side: *side,
+        gx: *gx,
+        gy: *gy,
     };
     leave(s.reset([x, y], n), origin, side, gx, gy)
 }
@@ -66,15 +65,11 @@ pub fn vuzgari_compare_add(
         (add_of (state origin.old side.old gx.old gy.old) x y (vx ∷ vy ∷ []))
         result origin.new side.new gx.new gy.new }
 {
-    let o = *origin;
-    let m = *side;
-    let a = *gx;
-    let b = *gy;
     let s = PixelGradients {
-        origin: o,
-        side: m,
-        gx: a,
-        gy: b,
+        origin: *origin,
+        side: *side,
+        gx: *gx,
+        gy: *gy,
     };
     leave(s.add(x, y, [vx, vy]), origin, side, gx, gy)
 }
@@ -91,14 +86,11 @@ pub fn vuzgari_compare_covariance(
         (covariance_of (state origin.now side gx.now gy.now))
         result out.new }
 {
-    let o = *origin;
-    let a = *gx;
-    let b = *gy;
     let s = PixelGradients {
-        origin: o,
+        origin: *origin,
         side,
-        gx: a,
-        gy: b,
+        gx: *gx,
+        gy: *gy,
     };
     told(s.covariance(), out)
 }

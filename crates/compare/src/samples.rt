@@ -1,10 +1,13 @@
 // Sampling.
 ghost use Rattle.std.specs.Prelude.{◌≡◌, ◌≤◌, length};
+ghost use Rattle.grid.specs.Grid.{Sides};
 ghost use Rattle.measure.specs.Figures.{figures_of};
 ghost use Rattle.measure.specs.Columns.{columns_in};
 ghost use Rattle.band.specs.Bands.{sample_of};
 ghost use Rattle.sample.specs.Laid.{laid_in, Collectable};
 ghost use Rattle.compare.specs.Counts.{counts_in};
+
+use grid::Grid;
 
 // `collect`, with its counts at the front of a lent slice.
 pub fn vuzgari_compare_collect(
@@ -16,12 +19,13 @@ pub fn vuzgari_compare_collect(
     floats: &mut [f32],
     counts: &mut [usize],
 )
-    requires { Collectable img.now w h windows ints.old floats.old × (5 ≤ length counts.old) }
+    requires { Sides w h × (1 ≤ windows) × Collectable img.now w h windows ints.old floats.old
+        × (5 ≤ length counts.old) }
     ensures { (counts.new ≡ counts_in (sample_of (figures_of img.now w h windows)) counts.old)
         × (ints.new ≡ columns_in (figures_of img.now w h windows) ints.old)
         × (floats.new ≡ laid_in (figures_of img.now w h windows) floats.old) }
 {
-    let s = sample::collect(img, w, h, windows, ints, floats);
+    let s = sample::collect(img, Grid { w, h, windows }, ints, floats);
     counts[0] = s.b0;
     counts[1] = s.b1;
     counts[2] = s.b2;

@@ -6,22 +6,19 @@ pub fn vuzgari_compare_window_sum(img: &[u8], w: usize, at: usize) -> i32
     requires { at + 3 * w + 4 ≤ length img.now }
     ensures { result ≡ (stats_of (pixels_at img.now w at)).sum }
 {
-    let s = window_stats::window(img, w, at);
-    s.sum
+    window_stats::window(img, w, at).sum
 }
 
 pub fn vuzgari_compare_window_gate(img: &[u8], w: usize, at: usize) -> i32
     requires { at + 3 * w + 4 ≤ length img.now }
     ensures { result ≡ (stats_of (pixels_at img.now w at)).gate }
 {
-    let s = window_stats::window(img, w, at);
-    s.gate
+    window_stats::window(img, w, at).gate
 }
 
 pub fn vuzgari_compare_window_op(img: &[u8], w: usize, at: usize) -> i32
     requires { at + 3 * w + 4 ≤ length img.now }
     ensures { result ≡ (stats_of (pixels_at img.now w at)).op }
 {
-    let s = window_stats::window(img, w, at);
-    s.op
+    window_stats::window(img, w, at).op
 }

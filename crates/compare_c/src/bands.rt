@@ -4,7 +4,8 @@ ghost use Rattle.quantile.specs.Quantile.{quiet};
 ghost use Rattle.sums.specs.Admitted.{admitted_at};
 ghost use Rattle.sums.specs.Start.{mean_quiet};
 ghost use Rattle.rounds.specs.Rounds.{band_variance, image_variance};
-ghost use Rattle.joining.specs.Joining.{variance_of, noise, number_of, figure_of};
+ghost use Rattle.numbers.specs.Numbers.{number_in};
+ghost use Rattle.joining.specs.Joining.{variance_of, noise, figure_of};
 ghost use Rattle.joining.specs.Windows.{windows_of};
 ghost use Rattle.compare.specs.Bands.{BandsInOrder, starts};
 
@@ -112,7 +113,7 @@ pub extern "C" fn vuzgari_compare_noise_number(
     e3: usize,
 ) -> u32
     requires { BandsInOrder gate.now op.now e1 e2 e3 }
-    ensures { result ≡ number_of (noise gate.now op.now (starts gate.now e1 e2 e3)).sigma }
+    ensures { result ≡ number_in (noise gate.now op.now (starts gate.now e1 e2 e3)).sigma }
 {
     compare::bands::vuzgari_compare_noise_number(gate, op, e1, e2, e3)
 }

@@ -1,4 +1,5 @@
-// What compare offers, as C calls: each calls its namesake there, under its clauses.
+// What compare offers, as C calls: each calls its namesake there, under its clauses. They stand twice since a crate is a library
+// or a static library.
 #![tactic(auto)]
 
 mod bands;

@@ -1,4 +1,5 @@
 ghost use Rattle.std.specs.Prelude.{◌≡◌, ◌≤◌, length};
+ghost use Rattle.grid.specs.Grid.{Sides};
 ghost use Rattle.measure.specs.Figures.{figures_of};
 ghost use Rattle.measure.specs.Columns.{columns_in};
 ghost use Rattle.band.specs.Bands.{sample_of};
@@ -16,7 +17,8 @@ pub extern "C" fn vuzgari_compare_collect(
     floats: &mut [f32],
     counts: &mut [usize],
 )
-    requires { Collectable img.now w h windows ints.old floats.old × (5 ≤ length counts.old) }
+    requires { Sides w h × (1 ≤ windows) × Collectable img.now w h windows ints.old floats.old
+        × (5 ≤ length counts.old) }
     ensures { (counts.new ≡ counts_in (sample_of (figures_of img.now w h windows)) counts.old)
         × (ints.new ≡ columns_in (figures_of img.now w h windows) ints.old)
         × (floats.new ≡ laid_in (figures_of img.now w h windows) floats.old) }

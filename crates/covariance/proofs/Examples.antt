@@ -6,7 +6,8 @@ use lib.Ieee
 use lib.Ieee.{Float, binary32, of_bits, of_int, round, units, size, is_nan}
 use Rattle.ieee.specs.Order.{larger, finite}
 use Rattle.ieee.specs.Sqrt.{sqrt}
-use Rattle.refine.specs.Covariance.{covariance, number}
+use Rattle.numbers.specs.Numbers.{number_in}
+use Rattle.refine.specs.Covariance.{covariance}
 use Rattle.refine.specs.declared.PositionCovariance.{PositionCovariance}
 use Rattle.ranges.specs.Ranges.{within}
 use Rattle.covariance.specs.declared.CovarianceModel.{CovarianceModel}
@@ -92,7 +93,7 @@ none = entries 0 0 0
 
 -- the number of a model at a sigma
 abbrev number_of : PositionCovariance → PositionCovariance → ℕ → ℕ → ℕ → ℕ
-number_of noise systematic k0 k1 sigma = number (noise_at (parts noise systematic k0 k1) (float sigma))
+number_of noise systematic k0 k1 sigma = number_in (noise_at (parts noise systematic k0 k1) (float sigma))
 
 -- 1,000 and -1,000, and the next floats
 abbrev thousands : List ℕ
@@ -149,7 +150,7 @@ sigma_nan = refl
 
 -- the total judges the same
 abbrev total_number : PositionCovariance → PositionCovariance → ℕ → ℕ → ℕ → ℕ
-total_number noise systematic k0 k1 sigma = number (total_at (parts noise systematic k0 k1) (float sigma))
+total_number noise systematic k0 k1 sigma = number_in (total_at (parts noise systematic k0 k1) (float sigma))
 
 pub total_ends : total_number (entries 0x4974_2400 0 0) (entries 0x7f7f_ffff 0 0) 0x447a_0000 0x447a_0000 0x447a_0000
     ∷ total_number (entries 0x4974_2401 0 0) none 0 0 0 ∷ total_number none (entries 0x7f80_0000 0 0) 0 0 0

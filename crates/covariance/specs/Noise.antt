@@ -1,12 +1,12 @@
 -- The noise term of a covariance model at a noise sigma, and the whole of it.
-use Rattle.std.specs.Prelude.{Bool, cond, not, ◌&&◌, Float}
+use Rattle.std.specs.Prelude.{Bool, cond, not, ◌&&◌, Float, Result, Ok, Err}
 use Rattle.std.specs.Float.{binary32}
 use Rattle.ieee.specs.Order.{larger}
 use Rattle.ieee.specs.Sqrt.{sqrt}
 use Rattle.refine.specs.Covariance.{covariance, add_covariance, all_finite}
 use Rattle.refine.specs.declared.PositionCovariance.{PositionCovariance}
-use Rattle.refine.specs.declared.Judged.{Judged}
-use Rattle.refine.specs.declared.Judged.TheVariants.{Covariance, Refused}
+use Rattle.numbers.specs.declared.Number.{Number}
+use Rattle.numbers.specs.declared.Number.TheVariants.{FloatRange}
 use Rattle.covariance.specs.declared.CovarianceModel.{CovarianceModel}
 use Rattle.ranges.specs.Arith.{◌⊕◌, ◌⊗◌, at, one, twelfth}
 use Rattle.ranges.specs.Ranges.{all_within, both_within, sigma_range}
@@ -37,10 +37,10 @@ model_in_range m sigma =
     ((all_within 1000000 m.noise && all_finite m.systematic) && both_within 1000 m.growth) && sigma_range sigma
 
 -- 12: one of them is not
-unfoldable pub noise_at : CovarianceModel → Float → Judged
+unfoldable pub noise_at : CovarianceModel → Float → Result PositionCovariance Number
 unfolding grown scaled
-noise_at m sigma = cond (not (model_in_range m sigma)) (Refused 12) (Covariance (noise_term m sigma))
+noise_at m sigma = cond (not (model_in_range m sigma)) (Err FloatRange) (Ok (noise_term m sigma))
 
-unfoldable pub total_at : CovarianceModel → Float → Judged
+unfoldable pub total_at : CovarianceModel → Float → Result PositionCovariance Number
 unfolding grown scaled
-total_at m sigma = cond (not (model_in_range m sigma)) (Refused 12) (Covariance (whole_term m sigma))
+total_at m sigma = cond (not (model_in_range m sigma)) (Err FloatRange) (Ok (whole_term m sigma))

@@ -6,13 +6,14 @@ ghost use Rattle.std.specs.Float.{binary32};
 ghost use Rattle.ieee.specs.Sqrt.{sqrt};
 ghost use Rattle.covariance.specs.Noise.{noise_variance, grown, scaled, noise_term, model_in_range, noise_at, total_at};
 
-use refine::{Judged, PositionCovariance};
+use numbers::Number;
+use refine::PositionCovariance;
 
 // Variance of rounding to integer grey levels: the f32 nearest to 1 / 12, the least pixel-noise variance a covariance uses.
 const ROUNDING_VAR: f32 = 0.083333336;
 
 // Everything needed to express a position covariance for a given image noise.
-#[derive(Clone, Copy)]
+#[derive(Clone, Copy, Debug, PartialEq)]
 pub struct CovarianceModel {
     // First-order noise covariance per unit noise variance.
     pub noise: PositionCovariance,
@@ -22,16 +23,11 @@ pub struct CovarianceModel {
     pub growth: [f32; 2],
 }
 
+// The larger of the square of sigma and the least variance, which a NaN gives too.
 fn variance_of(sigma: f32) -> f32
     ensures { result ≡ noise_variance sigma }
 {
-    // false of a NaN too
-    let square = sigma * sigma;
-    if square >= ROUNDING_VAR {
-        square
-    } else {
-        ROUNDING_VAR
-    }
+    float::max(sigma * sigma, ROUNDING_VAR)
 }
 
 // The square root. 1, the factor of a noise that doesn't grow, is its own, and is told without the call.
@@ -66,12 +62,9 @@ impl CovarianceModel {
     fn in_range(self, sigma: f32) -> bool
         ensures { result ≡ model_in_range self sigma }
     {
-        let growth = self.growth;
-        let noise = self.noise;
-        let systematic = self.systematic;
-        ranges::all_within(noise)
-            & ranges::all_finite(systematic)
-            & ranges::both_within(growth)
+        ranges::all_within(self.noise)
+            & ranges::all_finite(self.systematic)
+            & ranges::both_within(self.growth)
             & ranges::sigma_in_range(sigma)
     }
 
@@ -79,32 +72,27 @@ impl CovarianceModel {
     fn noise_term(self, sigma: f32) -> PositionCovariance
         ensures { result ≡ noise_term self sigma }
     {
-        let noise = self.noise;
-        let growth = self.growth;
+        let [k0, k1] = self.growth;
         let var = variance_of(sigma);
-        let f0 = grown_by(var, growth[0]);
-        let f1 = grown_by(var, growth[1]);
-        scaled_by(noise, var, f0, f1)
+        scaled_by(self.noise, var, grown_by(var, k0), grown_by(var, k1))
     }
 
     // The noise term alone at `sigma`.
-    pub fn noise_at(self, sigma: f32) -> Judged
+    #[tactic(auto, unfolding(crate::specs::Noise::noise_at))]
+    pub fn noise_at(self, sigma: f32) -> Result<PositionCovariance, Number>
         ensures { result ≡ noise_at self sigma }
     {
         if !self.in_range(sigma) {
-            return Judged::Refused(12);
+            return Err(Number::FloatRange);
         }
-        Judged::Covariance(self.noise_term(sigma))
+        Ok(self.noise_term(sigma))
     }
 
     // The model with an image noise of `sigma` grey levels: the noise term and the systematic one.
-    pub fn total(self, sigma: f32) -> Judged
+    #[tactic(auto, using(crate::proofs::Formulas::total_given))]
+    pub fn total(self, sigma: f32) -> Result<PositionCovariance, Number>
         ensures { result ≡ total_at self sigma }
     {
-        if !self.in_range(sigma) {
-            return Judged::Refused(12);
-        }
-        let part = self.systematic;
-        Judged::Covariance(self.noise_term(sigma).add(part))
+        Ok(self.noise_at(sigma)? + self.systematic)
     }
 }

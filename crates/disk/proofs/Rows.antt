@@ -1,13 +1,12 @@
 -- A list in rows of 17 by its index: what stands at place k, so many rows below or above it, so many columns to its right or left.
-use mathlib.Core.Path.{◌≡◌, ap, ◌∙◌}
+use mathlib.Core.Path.{◌≡◌, ap}
 use mathlib.Core.List.{List}
 use Prim.Native.Nat.{ℕ, ◌+◌, ◌*◌, ◌-◌, ◌/◌, ◌%◌, ◌≤◌}
 use native.Mathlib.Omega.{arith}
 use lib.ListN.{get_or}
 use lib.Ieee.{Float, nan}
 use Rattle.disk.specs.Rows.{read}
-use Rattle.disk.specs.Smoothing.{binomial, down, across}
-use Rattle.disk.specs.Strided.{strided}
+use Rattle.disk.specs.Smoothing.{binomial}
 
 pub here : (l : List Float) (k : ℕ) → get_or l k nan ≡ read l (k / 17) (k % 17)
 here l k = ap (λ (i : ℕ). get_or l i nan) (go k)
@@ -41,16 +40,3 @@ left l k h = ap (λ (i : ℕ). get_or l i nan) (go k h)
 
 pub five : {a b c d e a' b' c' d' e' : Float} → a ≡ a' → b ≡ b' → c ≡ c' → d ≡ d' → e ≡ e' → binomial a b c d e ≡ binomial a' b' c' d' e'
 five {a} {b} {c} {d} {e} {a'} {b'} {c'} {d'} {e'} p q r s t = λ i. binomial (p i) (q i) (r i) (s i) (t i)
-
--- five values a row apart are those of a column, five one place apart those of a row
-pub strided_column : (l : List Float) (k : ℕ) {r : Float} → r ≡ strided l k 17 → r ≡ down (read l) (k / 17) (k % 17)
-strided_column l k e = e ∙ same
-  where
-    same : strided l k 17 ≡ down (read l) (k / 17) (k % 17)
-    same = five (here l k) (below l k 1) (below l k 2) (below l k 3) (below l k 4)
-
-pub strided_row : (l : List Float) (k : ℕ) {r : Float} → r ≡ strided l k 1 → r ≡ across (read l) (k / 17) (k % 17)
-strided_row l k e = e ∙ same
-  where
-    same : strided l k 1 ≡ across (read l) (k / 17) (k % 17)
-    same = five (here l k) (right l k 1) (right l k 2) (right l k 3) (right l k 4)

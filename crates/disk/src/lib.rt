@@ -1,13 +1,14 @@
 // A square of samples smoothed, and the values and gradients on its disk.
 #![tactic(auto)]
 
-ghost use Rattle.std.specs.Prelude.{◌≡◌, ◌+◌, ◌*◌, ◌<◌, length};
+ghost use Rattle.std.specs.Prelude.{◌≡◌, ◌+◌, ◌*◌, ◌≤◌};
+ghost use Rattle.laws.specs.Lists.{from};
 ghost use Rattle.disk.specs.Rows.{in_rows, read};
 ghost use Rattle.disk.specs.Smoothing as Smoothing;
 ghost use Rattle.disk.specs.Strided.{strided};
 ghost use Rattle.disk.specs.Gradients as Gradients;
 
-// The places of the disk in rows of 17: dx² + dy² ≤ 25, rows first.
+// The places of the disk in rows of 17: dx² + dy² ≤ 25, rows first. A const cannot be computed by a loop.
 const EDGE_DISK: [u8; 81] = [
     23, 37, 38, 39, 40, 41, 42, 43, 53, 54, 55, 56, 57, 58, 59, 60, 61, 70, 71, 72, 73, 74, 75, 76,
     77, 78, 87, 88, 89, 90, 91, 92, 93, 94, 95, 103, 104, 105, 106, 107, 108, 109, 110, 111, 112,
@@ -22,77 +23,58 @@ fn binomial(a: f32, b: f32, c: f32, d: f32, e: f32) -> f32
     (a + e) + 4.0 * (b + d) + 6.0 * c
 }
 
-// The same over the five values from place k on, each a stride after the one before.
-fn strided(values: &[f32], k: usize, stride: usize) -> f32
-    requires { k + 4 * stride < length values.now }
-    ensures { result ≡ strided values.now k stride }
+// Each value is made of the five from its place on, STRIDE places apart.
+fn smooth<const STRIDE: usize, const N: usize, const M: usize>(
+    values: &[f32; N],
+    out: &mut [f32; M],
+)
+    requires { M + 4 * STRIDE ≤ N }
+    ensures { out.new ≡ from (λ k. strided values.now k STRIDE) 0 M }
 {
-    binomial(
-        values[k],
-        values[k + stride],
-        values[k + 2 * stride],
-        values[k + 3 * stride],
-        values[k + 4 * stride],
-    )
+    for k in 0..M {
+        out[k] = binomial(
+            values[k],
+            values[k + STRIDE],
+            values[k + 2 * STRIDE],
+            values[k + 3 * STRIDE],
+            values[k + 4 * STRIDE],
+        );
+    }
 }
 
-// Down the columns: 13 rows of 17.
+// Down the columns: 13 rows of 17. The lent arrays are filled where they stand, as document 01 has the tile.
 pub fn down(tile: &[f32; 289], out: &mut [f32; 221])
-    requires { length out.old ≡ 221 }
     ensures { out.new ≡ in_rows (Smoothing.down (read tile.now)) 221 }
 {
-    let mut k = 0;
-    while k < 221 {
-        out[k] = strided(tile, k, 17);
-        k += 1;
-    }
+    smooth::<17, 289, 221>(tile, out);
 }
 
 // Across the rows: 13 rows, of which the first 13 columns are whole.
 pub fn across(rows: &[f32; 221], out: &mut [f32; 217])
-    requires { length out.old ≡ 217 }
     ensures { out.new ≡ in_rows (Smoothing.across (read rows.now)) 217 }
 {
-    let mut k = 0;
-    while k < 217 {
-        out[k] = strided(rows, k, 1);
-        k += 1;
-    }
-}
-
-fn wide(x: u8) -> usize
-    ensures { result ≡ x }
-{
-    x as usize
+    smooth::<1, 221, 217>(rows, out);
 }
 
 // The disk's values.
 pub fn values(smooth: &[f32; 217]) -> [f32; 81]
     ensures { result ≡ Gradients.values (read smooth.now) }
 {
-    let table = EDGE_DISK;
-    let mut out = [0.0f32; 81];
-    let mut m = 0;
-    while m < 81 {
-        let i = wide(table[m]);
-        out[m] = smooth[i];
-        m += 1;
+    let mut out = [0.0; 81];
+    for (m, place) in EDGE_DISK.iter().enumerate() {
+        out[m] = smooth[usize::from(*place)];
     }
     out
 }
 
 // The disk's squared gradients.
 pub fn gradients(smooth: &[f32; 217], out: &mut [f32; 81])
-    requires { length out.old ≡ 81 }
     ensures { out.new ≡ Gradients.gradients (read smooth.now) }
 {
-    let table = EDGE_DISK;
-    let mut m = 0;
-    while m < 81 {
-        let i = wide(table[m]);
+    for (m, place) in EDGE_DISK.iter().enumerate() {
+        let i = usize::from(*place);
         let gx = smooth[i + 1] - smooth[i - 1];
         let gy = smooth[i + 17] - smooth[i - 17];
         out[m] = gx * gx + gy * gy;
-        m += 1;
     }
 }

@@ -1,5 +1,5 @@
 -- Demand 1 at the edge call, for every argument: a width or one of 1, 2, 8, 9, each exactly when its cause is the first to apply.
-use Rattle.std.specs.Prelude.{◌≡◌, Bool, true, false, ◌||◌, ◌↔◌, ◌⊎◌, List, ℕ, length, ℤ, Float}
+use Rattle.std.specs.Prelude.{◌≡◌, Bool, true, false, ◌||◌, ◌↔◌, ◌⊎◌, List, ℕ, length, ℤ, Float, refl}
 use Rattle.std.specs.Float.Ieee.{lt}
 use Rattle.ieee.specs.Numbers.{f32_of}
 use Rattle.limits.specs.Limits.{too_large, other_length, far_place}
@@ -7,6 +7,9 @@ use Rattle.levels.specs.Levels.{high_level, low_level}
 use Rattle.steepness.specs.Steepness.{steepness}
 use Rattle.disk.specs.Smoothing.{smoothed}
 use Rattle.disk.specs.Gradients.{values, gradients}
+use Rattle.numbers.specs.Numbers.{number_of}
+use Rattle.numbers.specs.declared.Number.{Number}
+use Rattle.numbers.specs.declared.Number.TheVariants.{SideAbove, OtherLength, Far, Flat}
 use Rattle.tile.specs.declared.EdgeWidth.{EdgeWidth}
 use Rattle.tile.specs.declared.EdgeWidth.TheVariants.{Width, Refused}
 use Rattle.tile.specs.Tile.{tile}
@@ -15,12 +18,16 @@ use Rattle.edge.specs.Edge.{edge}
 
 -- by the causes: a side above 16,384, another number of pixels, a centre or an origin far off, a gradient mean above zero
 pub record Demand1 (large other far steep : Bool) (width : Float) (r : EdgeWidth) : Type 0 where
-  pub one : (r ≡ Refused 1) ↔ (large ≡ true)
-  pub two : (r ≡ Refused 2) ↔ ((large ≡ false) × (other ≡ true))
-  pub eight : (r ≡ Refused 8) ↔ ((large ≡ false) × (other ≡ false) × (far ≡ true))
-  pub nine : (r ≡ Refused 9) ↔ ((large ≡ false) × (other ≡ false) × (far ≡ false) × (steep ≡ false))
+  pub one : (r ≡ Refused SideAbove) ↔ (large ≡ true)
+  pub two : (r ≡ Refused OtherLength) ↔ ((large ≡ false) × (other ≡ true))
+  pub eight : (r ≡ Refused Far) ↔ ((large ≡ false) × (other ≡ false) × (far ≡ true))
+  pub nine : (r ≡ Refused Flat) ↔ ((large ≡ false) × (other ≡ false) × (far ≡ false) × (steep ≡ false))
   pub figure : (x : Float) → (r ≡ Width x) ↔ ((large ≡ false) × (other ≡ false) × (far ≡ false) × (steep ≡ true) × (x ≡ width))
-  pub no_other : (n : ℕ) → r ≡ Refused n → (n ≡ 1) ⊎ (n ≡ 2) ⊎ (n ≡ 8) ⊎ (n ≡ 9)
+  pub no_other : (why : Number) → r ≡ Refused why → (why ≡ SideAbove) ⊎ (why ≡ OtherLength) ⊎ (why ≡ Far) ⊎ (why ≡ Flat)
+
+-- document 01's numbers of these
+pub numbers : (number_of SideAbove ≡ 1) × (number_of OtherLength ≡ 2) × (number_of Far ≡ 8) × (number_of Flat ≡ 9)
+numbers = (refl, refl, refl, refl)
 
 -- the smoothed square, its levels and its gradient mean
 abbrev pub square : List ℕ → ℕ → ℕ → List ℤ → List ℤ → ℕ → ℕ → Float

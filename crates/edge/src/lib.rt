@@ -11,7 +11,10 @@ use tile::{EdgeWidth, PixelTile};
 pub fn edge_width(img: ImageView, centre: [i32; 2]) -> EdgeWidth
     ensures { result ≡ edge img.entry.pixels.now img.entry.width img.entry.height img.entry.origin centre }
 {
-    PixelTile::load(img, centre).edge_width()
+    match PixelTile::load(img, centre) {
+        Ok(tile) => tile.edge_width(),
+        Err(why) => EdgeWidth::Refused(why),
+    }
 }
 
 // The same of the view of a slice, for a caller that has no view.

@@ -1,66 +1,65 @@
--- Which number a call gets, from the tests on the way: one law for each way out. Assumes nothing.
+-- What a call answers, from the tests on the way: one law for each way out. Assumes nothing.
 use mathlib.Core.Path.{◌≡◌, refl, sym, ap, ◌∙◌}
 use mathlib.Core.Bool.{Bool, true, false, cond, not}
+use Prim.Native.Nat.{ℕ, ◌*◌, ◌≤◌}
 use mathlib.Core.List.{List}
-use Prim.Native.Nat.{ℕ}
-use native.Mathlib.Omega.{arith}
 use lib.IntN.{ℤ}
 use lib.Ieee.{Float}
-use borrow.Author.Tests.{ne_eqb}
-use Rattle.laws.proofs.Refusing.{stands, follows}
+use Rattle.std.specs.Prelude.{Result, Ok, Err}
+use Rattle.numbers.specs.declared.Number.{Number}
+use Rattle.numbers.specs.declared.Number.TheVariants.{FloatRange, Outside}
 use Rattle.refine.specs.Covariance.{judged}
-use Rattle.refine.specs.declared.Judged.TheVariants.{Refused}
 use Rattle.gradients.specs.declared.PixelGradients.{PixelGradients}
-use Rattle.support.specs.Support.{state_number}
-use Rattle.support.proofs.Refusals.{state_stands, state_passes}
-use Rattle.gradients.specs.Gradients.{handed, in_support, cell, both_finite, add_number, added, add_of, support_gram, covariance_of}
+use Rattle.support.specs.Support.{state_judged}
+use Rattle.support.proofs.Places.{few_cells}
+use Rattle.support.proofs.Refusals.{small, state_stands, state_passes}
+use Rattle.gradients.specs.Gradients.{in_support, cell, both_finite, place_of, support_gram, covariance_of}
 
--- ---- the state handed back
-
-module _ (old new : PixelGradients) where
-  pub kept : (n : ℕ) → (n ≡ 0 → ⊥) → {m : ℕ} → n ≡ m → record { number = n; state = old } ≡ handed m old new
-  unfolding handed
-  kept n h e = ap (λ (b : Bool). record { number = n; state = cond b new old }) (sym (ne_eqb n 0 h)) ∙ ap (λ (m : ℕ). handed m old new) e
-
-  pub changed : {m : ℕ} → 0 ≡ m → record { number = 0; state = new } ≡ handed m old new
-  unfolding handed
-  changed e = ap (λ (m : ℕ). handed m old new) e
-
--- ---- add
+-- ---- place
 
 module _ (s : PixelGradients) (x y : ℤ) (v : List Float) where
-  pub add_state : (n : ℕ) → (n ≡ 0 → ⊥) → n ≡ state_number s.origin s.side → record { number = n; state = s } ≡ add_of s x y v
-  unfolding add_of add_number
-  add_state n h e = kept s _ n h (state_stands s.origin s.side _ h e)
+  -- by the tests after those of the state, in their order
+  by : Bool → Bool → ℕ → Result ℕ Number
+  by a b k = cond (not a) (Err FloatRange) (cond (not b) (Err Outside) (Ok k))
 
-  module _ (e : 0 ≡ state_number s.origin s.side) where
-    -- the number by the tests after those of the state, in their order
-    by : Bool → Bool → ℕ
-    by a b = cond (not a) 12 (cond (not b) 11 0)
+  pub place_state : (why : Number) → Err why ≡ state_judged s.origin s.side → Err why ≡ place_of s x y v
+  unfolding place_of by
+  place_state why e = state_stands s.origin s.side (by (both_finite v) (in_support s x y) (cell s x y)) why e
 
-    number_is : (a b : Bool) → both_finite v ≡ a → in_support s x y ≡ b → by a b ≡ add_number s x y v
-    unfolding add_number by
-    number_is a b f i = ap (λ (z : Bool). by z b) (sym f) ∙ ap (λ (z : Bool). by (both_finite v) z) (sym i) ∙ state_passes s.origin s.side (by (both_finite v) (in_support s x y)) e
+  module _ (e : Ok tt ≡ state_judged s.origin s.side) where
+    answered : (a b : Bool) (k : ℕ) → both_finite v ≡ a → in_support s x y ≡ b → cell s x y ≡ k → by a b k ≡ place_of s x y v
+    unfolding place_of by
+    answered a b k f i h =
+        ap (λ (z : Bool). by z b k) (sym f) ∙ ap (λ (z : Bool). by (both_finite v) z k) (sym i)
+        ∙ ap (by (both_finite v) (in_support s x y)) (sym h) ∙ state_passes s.origin s.side (by (both_finite v) (in_support s x y) (cell s x y)) e
 
-    pub add_12 : both_finite v ≡ false → record { number = 12; state = s } ≡ add_of s x y v
-    unfolding add_of by
-    add_12 f = kept s _ 12 (λ q. omega arith) (number_is false (in_support s x y) f refl)
+    pub place_12 : both_finite v ≡ false → Err FloatRange ≡ place_of s x y v
+    unfolding by
+    place_12 f = answered false (in_support s x y) (cell s x y) f refl refl
 
-    pub add_11 : both_finite v ≡ true → in_support s x y ≡ false → record { number = 11; state = s } ≡ add_of s x y v
-    unfolding add_of by
-    add_11 f i = kept s _ 11 (λ q. omega arith) (number_is true false f i)
+    module _ (f : both_finite v ≡ true) where
+      pub place_11 : in_support s x y ≡ false → Err Outside ≡ place_of s x y v
+      unfolding by
+      place_11 i = answered true false (cell s x y) f i refl
 
-    pub add_0 : both_finite v ≡ true → in_support s x y ≡ true → {k : ℕ} → k ≡ cell s x y → record { number = 0; state = added s k v } ≡ add_of s x y v
-    unfolding add_of by
-    add_0 f i k = ap (λ (k : ℕ). record { number = 0; state = added s k v }) k ∙ changed s (added s (cell s x y) v) (number_is true true f i)
+      pub place_0 : in_support s x y ≡ true → {k : ℕ} → k ≡ cell s x y → Ok k ≡ place_of s x y v
+      unfolding by
+      place_0 i {k} h = answered true true k f i (sym h)
 
 -- ---- covariance
 
 module _ (s : PixelGradients) where
-  pub covariance_state : (n : ℕ) → (n ≡ 0 → ⊥) → n ≡ state_number s.origin s.side → Refused n ≡ covariance_of s
-  unfolding covariance_of
-  covariance_state n h e = stands Refused _ n h e
+  -- a support that nothing refuses has at most 1,024 cells
+  pub few : Ok tt ≡ state_judged s.origin s.side → s.side * s.side ≤ 1024
+  few e = few_cells s.side (small s.origin s.side e)
 
-  pub covariance_0 : 0 ≡ state_number s.origin s.side → judged (support_gram s) ≡ covariance_of s
+  pub covariance_state : (why : Number) → Err why ≡ state_judged s.origin s.side → Err why ≡ covariance_of s
   unfolding covariance_of
-  covariance_0 e = follows Refused _ e
+  covariance_state why e = state_stands s.origin s.side (judged (support_gram s)) why e
+
+  pub covariance_0 : Ok tt ≡ state_judged s.origin s.side → judged (support_gram s) ≡ covariance_of s
+  unfolding covariance_of
+  covariance_0 e = state_passes s.origin s.side (judged (support_gram s)) e
+
+-- what `covariance` needs
+pub ruleset covered = (few, covariance_state, covariance_0)

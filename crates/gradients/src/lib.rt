@@ -1,12 +1,14 @@
 // The gradient accumulator of uncertainty.rs, as a value that goes in and comes back.
 #![tactic(auto)]
 
-ghost use Rattle.std.specs.Prelude.{◌≡◌};
-ghost use Rattle.gradients.specs.Gradients.{empty, reset_of, add_of, covariance_of};
+ghost use Rattle.std.specs.Prelude.{◌≡◌, ◌<◌, IfOk};
+ghost use Rattle.gradients.specs.Gradients.{empty, reset_of, place_of, add_of, covariance_of};
 
-use refine::Judged;
+use numbers::Number;
+use refine::PositionCovariance;
 
 // The gradient of one estimate by each pixel, accumulated over a square of input pixels: `side` rows of `side` cells, row by row.
+// Two columns, as the calls from C lend them.
 #[derive(Drop)]
 pub struct PixelGradients {
     // The top-left pixel.
@@ -16,99 +18,83 @@ pub struct PixelGradients {
     pub gy: [f32; 1024],
 }
 
-// A state handed back: changed where the number is 0, and as it was otherwise.
+// Why a call changes nothing, and the state as it was.
 #[derive(Drop)]
-pub struct Handed {
-    pub number: u32,
+pub struct Unchanged {
+    pub why: Number,
     pub state: PixelGradients,
 }
 
-impl PixelGradients {
-    // No support.
-    pub fn default() -> Self
-        ensures { result ≡ empty }
-    {
-        let zeros = [0.0; 1024];
+// No support.
+impl Default for PixelGradients {
+    ghost is_default = { λ s. s ≡ empty };
+
+    fn default() -> Self {
         Self {
             origin: [0, 0],
             side: 0,
-            gx: zeros,
-            gy: zeros,
+            gx: [0.0; 1024],
+            gy: [0.0; 1024],
         }
     }
+}
 
+impl PixelGradients {
     // The accumulator cleared for a `side` by `side` support whose top-left pixel is `origin`: every cell is zero, those past
     // the side too.
-    pub fn reset(mut self, origin: [i32; 2], side: usize) -> Handed
+    #[tactic(auto, unfolding(crate::specs::Gradients::reset_of))]
+    pub fn reset(mut self, origin: [i32; 2], side: usize) -> Result<Self, Unchanged>
         ensures { result ≡ reset_of self origin side }
     {
-        let number = support::state_number(origin, side);
-        if number != 0 {
-            return Handed {
-                number,
-                state: self,
-            };
+        if let Err(why) = support::judge(origin, side) {
+            return Err(Unchanged { why, state: self });
         }
-        let zeros = [0.0; 1024];
         self.origin = origin;
         self.side = side;
-        self.gx = zeros;
-        self.gy = zeros;
-        Handed {
-            number: 0,
-            state: self,
+        self.gx = [0.0; 1024];
+        self.gy = [0.0; 1024];
+        Ok(self)
+    }
+
+    // The cell of pixel (x, y), where v can be added to it.
+    #[tactic(auto, using(crate::proofs::Refusals::place_12))]
+    fn place(&self, x: i32, y: i32, v: [f32; 2]) -> Result<usize, Number>
+        ensures place { result ≡ place_of self.now x y v }
+        ensures inside { IfOk result (λ k. k < 1024) }
+    {
+        support::judge(self.origin, self.side)?;
+        if !(float::is_finite32(v[0]) & float::is_finite32(v[1])) {
+            return Err(Number::FloatRange);
         }
+        let i = support::past_origin(x, self.origin[0], self.side).ok_or(Number::Outside)?;
+        let j = support::past_origin(y, self.origin[1], self.side).ok_or(Number::Outside)?;
+        Ok(support::index(i, j, self.side))
     }
 
     // v added to the gradient of pixel (x, y).
-    pub fn add(mut self, x: i32, y: i32, v: [f32; 2]) -> Handed
+    #[tactic(auto, unfolding(crate::specs::Gradients::add_of))]
+    pub fn add(mut self, x: i32, y: i32, v: [f32; 2]) -> Result<Self, Unchanged>
         ensures { result ≡ add_of self x y v }
     {
-        let origin = self.origin;
-        let side = self.side;
-        let number = support::state_number(origin, side);
-        if number != 0 {
-            return Handed {
-                number,
-                state: self,
-            };
-        }
-        if !(float::is_finite32(v[0]) & float::is_finite32(v[1])) {
-            return Handed {
-                number: 12,
-                state: self,
-            };
-        }
-        let i = support::past_origin(x, origin[0], side);
-        let j = support::past_origin(y, origin[1], side);
-        if !((i < side) & (j < side)) {
-            return Handed {
-                number: 11,
-                state: self,
-            };
-        }
-        let k = support::index(i, j, side);
-        self.gx[k] = self.gx[k] + v[0];
-        self.gy[k] = self.gy[k] + v[1];
-        Handed {
-            number: 0,
-            state: self,
+        match self.place(x, y, v) {
+            Ok(k) => {
+                self.gx[k] += v[0];
+                self.gy[k] += v[1];
+                Ok(self)
+            }
+            Err(why) => Err(Unchanged { why, state: self }),
         }
     }
 
     // The sum of g by its transpose over the support's pixels.
-    pub fn covariance(self) -> Judged
+    #[tactic(auto, using(crate::proofs::Refusals::covered))]
+    pub fn covariance(self) -> Result<PositionCovariance, Number>
         ensures { result ≡ covariance_of self }
     {
-        let origin = self.origin;
-        let side = self.side;
-        let number = support::state_number(origin, side);
-        if number != 0 {
-            return Judged::Refused(number);
-        }
-        let n = side * side;
-        let gx = self.gx;
-        let gy = self.gy;
-        gram::gram(&gx[..n], &gy[..n])
+        support::judge(self.origin, self.side)?;
+        let n = self.side * self.side;
+        let gx = &self.gx[..n];
+        let gy = &self.gy[..n];
+        gram::gram(gx, gy)
     }
 }

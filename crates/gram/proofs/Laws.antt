@@ -9,7 +9,7 @@ use lib.Ieee.{Float, nan, binary32, binary64}
 use Rattle.ieee.specs.Convert.{convert}
 use Rattle.ieee.specs.Order.{finite}
 use Rattle.refine.specs.Covariance.{zeros, judged}
-use Rattle.refine.specs.declared.Judged.TheVariants.{Covariance}
+use Rattle.std.specs.Prelude.{Ok}
 use Rattle.ieee.specs.Numbers.{plus_zero}
 use Rattle.gram.specs.Gram.{product, along, partial, product_sum, gram}
 use Rattle.gram.proofs.Sums.{product_sum_is, gram_is}
@@ -51,6 +51,6 @@ module _ (a b : List Float) (za : Zeros a) (zb : Zeros b) (e : length a ≡ leng
       (product_sum_is a b (length a) refl (sym (partial_zero 0 (omega arith))) (sym (partial_zero 1 (omega arith))) (sym (partial_zero 2 (omega arith))) (sym (partial_zero 3 (omega arith)))
       (sym rest_zero) rounded_zero)
 
-pub gram_zero : (a b : List Float) → Zeros a → Zeros b → length a ≡ length b → judged (gram a b) ≡ Covariance zeros
+pub gram_zero : (a b : List Float) → Zeros a → Zeros b → length a ≡ length b → judged (gram a b) ≡ Ok zeros
 unfolding finite
 gram_zero a b za zb e = ap judged (sym (gram_is a b (sym (product_sum_zero a a za za refl)) (sym (product_sum_zero a b za zb e)) (sym (product_sum_zero b b zb zb refl)) refl))

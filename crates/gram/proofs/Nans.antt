@@ -1,6 +1,6 @@
 -- A NaN in a cell is a NaN in the sum of its squares, so the covariance is refused. Assumes nothing.
 use mathlib.Core.Path.{◌≡◌, refl, sym, ap, ◌∙◌, subst}
-use mathlib.Core.Bool.{Bool, true, false, not, cond, ◌&&◌, ◌||◌, true≢false, false≢true}
+use mathlib.Core.Bool.{Bool, true, false, not, cond, ◌&&◌, false≢true}
 use mathlib.Core.Logic.{◌⊎◌, inl, inr}
 use mathlib.Core.List.{List}
 use Prim.Native.Nat.{ℕ, zero, suc, ◌+◌, ◌*◌, ◌/◌, ◌%◌, ◌-◌, ◌<◌, ◌≤◌}
@@ -9,37 +9,41 @@ use native.Mathlib.Omega.{arith}
 use lib.Dec.{T}
 use lib.ListN.{length, get_or}
 use lib.Ieee
-use lib.Ieee.{Float, nan, inf, fin, binary32, binary64, ne, is_nan}
+use lib.Ieee.{Float, nan, inf, fin, binary32, binary64, is_nan}
 use Rattle.ieee.specs.Convert.{convert}
 use Rattle.ieee.specs.Order.{finite}
 use Rattle.ieee.proofs.Naturals.{le_or_lt}
-use Rattle.ieee.proofs.Tests.{nan_is, no_nan}
 use Rattle.refine.specs.Covariance.{covariance, judged}
-use Rattle.refine.specs.declared.Judged.{Judged}
-use Rattle.refine.specs.declared.Judged.TheVariants.{Covariance, Refused}
+use Rattle.std.specs.Prelude.{Result, Ok, Err}
+use Rattle.std.proofs.Math.Bool.{and-false}
+use Rattle.std.proofs.lemmas.Bool.{or_parts, or_cases}
+use Rattle.numbers.specs.declared.Number.{Number}
+use Rattle.numbers.specs.declared.Number.TheVariants.{NotFinite}
+use Rattle.refine.specs.declared.PositionCovariance.{PositionCovariance}
 use Rattle.ieee.specs.Numbers.{plus_zero}
 use Rattle.gram.specs.Gram.{product, along, partial, product_sum, gram}
 use Rattle.gram.specs.Loops.{any_nan}
 
 -- ---- what the test of the cells tells
-neither : (p q : Bool) → p || q ≡ false → (p ≡ false) × (q ≡ false)
-neither true q h = absurd (true≢false h)
-neither false q h = (refl, h)
+nan_is : (x : Float) → is_nan x ≡ true → x ≡ nan
+unfolding is_nan
+nan_is nan h = refl
+nan_is (inf s) h = absurd (false≢true h)
+nan_is (fin s m e) h = absurd (false≢true h)
 
-either : (p q : Bool) → p || q ≡ true → (p ≡ true) ⊎ (q ≡ true)
-either true q h = inl refl
-either false q h = inr h
+no_nan : (x : Float) → is_nan x ≡ false → T (not (is_nan x))
+no_nan x h = subst (λ (b : Bool). T (not b)) (sym h) tt
 
 abbrev pub Numbers : List Float → List Float → ℕ → Type 0
 Numbers gx gy i = T (not (is_nan (get_or gx i nan))) × T (not (is_nan (get_or gy i nan)))
 
 pub plain_cells : (gx gy : List Float) (n i : ℕ) → any_nan gx gy n ≡ false → i < n → Numbers gx gy i
 plain_cells gx gy zero i h l = absurd (omega (arith, l))
-plain_cells gx gy (suc n) i h l = elim (le_or_lt n i) [ inl k ↦ last k | inr k ↦ plain_cells gx gy n i (neither (any_nan gx gy n) _ h).0 k ]
+plain_cells gx gy (suc n) i h l = elim (le_or_lt n i) [ inl k ↦ last k | inr k ↦ plain_cells gx gy n i (or_parts (any_nan gx gy n) _ h).0 k ]
   where
     last : n ≤ i → Numbers gx gy i
     last k =
-        let q = neither (ne (get_or gx n nan) (get_or gx n nan)) _ (neither (any_nan gx gy n) _ h).1 in
+        let q = or_parts (is_nan (get_or gx n nan)) _ (or_parts (any_nan gx gy n) _ h).1 in
         subst (λ (j : ℕ). Numbers gx gy j) (le_antisymm k (omega (arith, l))) (no_nan _ q.0, no_nan _ q.1)
 
 record NanIn (a : List Float) : Type 0 where
@@ -50,10 +54,10 @@ record NanIn (a : List Float) : Type 0 where
 found : (gx gy : List Float) (n : ℕ) → n ≤ length gx → n ≤ length gy → any_nan gx gy n ≡ true → NanIn gx ⊎ NanIn gy
 found gx gy zero l m h = absurd (false≢true h)
 found gx gy (suc n) l m h =
-    elim (either (any_nan gx gy n) _ h)
-    [ inl p ↦ found gx gy n (omega (arith, l)) (omega (arith, m)) p | inr p ↦ last (either (ne (get_or gx n nan) (get_or gx n nan)) _ p) ]
+    elim (or_cases (any_nan gx gy n) _ h)
+    [ inl p ↦ found gx gy n (omega (arith, l)) (omega (arith, m)) p | inr p ↦ last (or_cases (is_nan (get_or gx n nan)) _ p) ]
   where
-    last : (ne (get_or gx n nan) (get_or gx n nan) ≡ true) ⊎ (ne (get_or gy n nan) (get_or gy n nan) ≡ true) → NanIn gx ⊎ NanIn gy
+    last : (is_nan (get_or gx n nan) ≡ true) ⊎ (is_nan (get_or gy n nan) ≡ true) → NanIn gx ⊎ NanIn gy
     last (inl q) = inl (record { place = n; inside = omega (arith, l); there = nan_is _ q })
     last (inr q) = inr (record { place = n; inside = omega (arith, m); there = nan_is _ q })
 
@@ -124,17 +128,13 @@ module _ (a : List Float) where
       in_fours (suc (suc (suc zero))) b e h = nan_rounded (nan_right _ (nan_right _ (in_partial 3 e h)))
       in_fours (suc (suc (suc (suc l)))) b e h = absurd (omega (arith, b))
 
-no_third : (p : Bool) → p && false ≡ false
-no_third true = refl
-no_third false = refl
-
-pub refused : (gx gy : List Float) → length gx ≡ length gy → any_nan gx gy (length gx) ≡ true → Refused 13 ≡ judged (gram gx gy)
+pub refused : (gx gy : List Float) → length gx ≡ length gy → any_nan gx gy (length gx) ≡ true → Err NotFinite ≡ judged (gram gx gy)
 unfolding finite
 refused gx gy e h = go (found gx gy (length gx) (omega arith) (omega (arith, e)) h)
   where
-    go : NanIn gx ⊎ NanIn gy → Refused 13 ≡ judged (gram gx gy)
+    go : NanIn gx ⊎ NanIn gy → Err NotFinite ≡ judged (gram gx gy)
     go (inl w) = sym (ap (λ (x : Float). judged (covariance x (product_sum gx gy) (product_sum gy gy))) (product_sum_nan gx w))
     go (inr w) =
         sym
         (ap (λ (x : Float). judged (covariance (product_sum gx gx) (product_sum gx gy) x)) (product_sum_nan gy w)
-        ∙ ap (λ (b : Bool). cond {A = Judged} b (Covariance (covariance (product_sum gx gx) (product_sum gx gy) nan)) (Refused 13)) (no_third (finite (product_sum gx gx) && finite (product_sum gx gy))))
+        ∙ ap (λ (b : Bool). cond {A = Result PositionCovariance Number} b (Ok (covariance (product_sum gx gx) (product_sum gx gy) nan)) (Err NotFinite)) (and-false (finite (product_sum gx gx) && finite (product_sum gx gy))))

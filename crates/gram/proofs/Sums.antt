@@ -1,12 +1,20 @@
 -- A loop that adds a gradient's products a turn: what it holds after n turns is `along` of n. Assumes nothing.
-use mathlib.Core.Path.{◌≡◌, refl, sym, ap, ◌∙◌}
-use mathlib.Core.List.{List}
-use Prim.Native.Nat.{ℕ, ◌+◌, ◌*◌, ◌/◌, ◌%◌}
+use mathlib.Core.Path.{◌≡◌, refl, sym, ap, ◌∙◌, subst}
+use mathlib.Core.Bool.{Bool, cond}
+use mathlib.Core.List.{List, [], ◌∷◌}
+use mathlib.Core.Logic.{inl, inr}
+use Prim.Native.Nat.{ℕ, zero, suc, ◌+◌, ◌*◌, ◌/◌, ◌%◌, ◌≤◌, ◌<◌}
 use native.Mathlib.Numerals.{add-one}
 use native.Mathlib.Omega.{arith}
+use lib.Dec.{ltb}
 use lib.Ieee
 use lib.Ieee.{Float, binary32, binary64}
-use lib.ListN.{length}
+use lib.ListN.{length, get_or, set, length-set}
+use lib.Seq.{get_or-set_same, get_or-set_other}
+use borrow.Author.Tests.{lt-ltb, le-ltb}
+use Rattle.std.proofs.lemmas.List.{get_or_default}
+use Rattle.laws.proofs.Choice.{chosen, passed}
+use Rattle.std.proofs.lemmas.Bool.{cases_order}
 use Rattle.ieee.specs.Convert.{convert}
 use Rattle.refine.specs.Covariance.{covariance}
 use Rattle.refine.specs.declared.PositionCovariance.{PositionCovariance}
@@ -49,28 +57,83 @@ module _ (gx gy : List Float) where
         of_yy = along_more gy gy step k s₀.yy n i h.of_yy e q.of_yy;
       }
 
-  pub fours_more : {k i0 i1 i2 i3 : ℕ} {p0 p1 p2 p3 r0 r1 r2 r3 : Three} → FourSums gx gy k p0 p1 p2 p3
-      → Added gx gy 1 i0 p0 1 r0 → i0 ≡ k * 4 + 0 → Added gx gy 1 i1 p1 1 r1 → i1 ≡ k * 4 + 1
-      → Added gx gy 1 i2 p2 1 r2 → i2 ≡ k * 4 + 2 → Added gx gy 1 i3 p3 1 r3 → i3 ≡ k * 4 + 3
-      → FourSums gx gy (k + 1) r0 r1 r2 r3
-  fours_more {k} {i0} {i1} {i2} {i3} f e0 q0 e1 q1 e2 q2 e3 q3 =
-      record {
-        zeroth = added_more 4 0 none k i0 f.zeroth q0 e0;
-        first = added_more 4 1 none k i1 f.first q1 e1;
-        second = added_more 4 2 none k i2 f.second q2 e2;
-        third = added_more 4 3 none k i3 f.third q3 e3;
-      }
+  -- ---- the four sums
+
+  -- before a turn
+  started : (l : ℕ) → get_or (none ∷ none ∷ none ∷ none ∷ []) l none ≡ none
+  started zero = refl
+  started (suc zero) = refl
+  started (suc (suc zero)) = refl
+  started (suc (suc (suc zero))) = refl
+  started (suc (suc (suc (suc l)))) = refl
+
+  pub fours_start : (x : Three) → x ≡ none → FourSums gx gy 0 (x ∷ x ∷ x ∷ x ∷ [])
+  fours_start x e = subst (λ (x : Three). FourSums gx gy 0 (x ∷ x ∷ x ∷ x ∷ [])) (sym e) (record {
+    four = refl;
+    each = λ l h. subst (Added gx gy 4 l none 0) (sym (started l)) (record { of_xx = refl; of_xy = refl; of_yy = refl });
+  })
+
+  -- within turn k: the sums below lane l have taken it
+  pub record Turning (k l : ℕ) (p : List Three) : Type 0 where
+    pub four : length p ≡ 4
+    pub each : (j : ℕ) → j < 4 → Added gx gy 4 j none (cond (ltb j l) (k + 1) k) (get_or p j none)
+
+  pub turning_start : {k : ℕ} {p : List Three} → FourSums gx gy k p → Turning k 0 p
+  turning_start {k} {p} f = record {
+    four = f.four;
+    each = λ j h. subst (λ (n : ℕ). Added gx gy 4 j none n (get_or p j none)) (passed (ltb j 0) (k + 1) k (le-ltb j 0 (omega arith))) (f.each j h);
+  }
+
+  pub turning_more : {k l i : ℕ} {p : List Three} (d : Three) {r : Three} → Turning k l p → l < 4 → i ≡ k * 4 + l → Added gx gy 1 i (get_or p l d) 1 r
+      → Turning k (l + 1) (set p l r)
+  turning_more {k} {l} {i} {p} d {r} t h e q = record {
+    four = length-set p l r ∙ t.four;
+    each = λ j m. elim (cases_order j l) [
+      | inl q ↦ subst (λ (j : ℕ). Added gx gy 4 j none (cond (ltb j (l + 1)) (k + 1) k) (get_or (set p l r) j none)) (sym q) here
+      | inr q ↦ elim q [
+        | inl b ↦ there j m (λ n. omega arith) (lt-ltb j l b) (lt-ltb j (l + 1) (omega arith))
+        | inr b ↦ there j m (λ n. omega arith) (le-ltb j l (omega arith)) (le-ltb j (l + 1) (omega arith))
+      ]
+    ];
+  }
+    where
+      there : (j : ℕ) → j < 4 → (j ≡ l → ⊥) → {b : Bool} → ltb j l ≡ b → ltb j (l + 1) ≡ b → Added gx gy 4 j none (cond (ltb j (l + 1)) (k + 1) k) (get_or (set p l r) j none)
+      there j m n x y =
+          subst (Added gx gy 4 j none (cond (ltb j (l + 1)) (k + 1) k)) (sym (get_or-set_other p l j r none n))
+          (subst (λ (b : Bool). Added gx gy 4 j none (cond b (k + 1) k) (get_or p j none)) (x ∙ sym y) (t.each j m))
+
+      taken : Added gx gy 4 l none (k + 1) r
+      taken = added_more 4 l none k i
+          (subst (λ (n : ℕ). Added gx gy 4 l none n (get_or p l none)) (sym (passed (ltb l l) (k + 1) k (le-ltb l l (omega arith)))) (t.each l h)) e
+          (subst (λ (s : Three). Added gx gy 1 i s 1 r) (get_or_default p l d none (omega (arith, t.four))) q)
+
+      here : Added gx gy 4 l none (cond (ltb l (l + 1)) (k + 1) k) (get_or (set p l r) l none)
+      here =
+          subst (Added gx gy 4 l none (cond (ltb l (l + 1)) (k + 1) k)) (sym (get_or-set_same p l r none (omega (arith, t.four))))
+          (subst (λ (n : ℕ). Added gx gy 4 l none n r) (chosen (ltb l (l + 1)) (k + 1) k (lt-ltb l (l + 1) (omega arith))) taken)
+
+  pub turning_end : {k l : ℕ} {p : List Three} → 4 ≤ l → Turning k l p → FourSums gx gy (k + 1) p
+  turning_end {k} {l} {p} f t = record {
+    four = t.four;
+    each = λ j h. subst (λ (n : ℕ). Added gx gy 4 j none n (get_or p j none)) (sym (chosen (ltb j l) (k + 1) k (lt-ltb j l (omega arith)))) (t.each j h);
+  }
 
   -- the partial sums, the rest in the first, joined
-  pub sums_are : {p0 p1 p2 p3 q : Three} {x y z : Float} {c : PositionCovariance} → length gx ≡ length gy → FourSums gx gy (length gx / 4) p0 p1 p2 p3
-      → Added gx gy 1 (length gx / 4 * 4) p0 (length gx % 4) q
-      → x ≡ convert binary32 (Ieee.add binary64 (Ieee.add binary64 q.xx p1.xx) (Ieee.add binary64 p2.xx p3.xx))
-      → y ≡ convert binary32 (Ieee.add binary64 (Ieee.add binary64 q.xy p1.xy) (Ieee.add binary64 p2.xy p3.xy))
-      → z ≡ convert binary32 (Ieee.add binary64 (Ieee.add binary64 q.yy p1.yy) (Ieee.add binary64 p2.yy p3.yy))
+  pub sums_are : {p : List Three} (d : Three) {q : Three} {x y z : Float} {c : PositionCovariance} → length gx ≡ length gy → FourSums gx gy (length gx / 4) p
+      → Added gx gy 1 (length gx / 4 * 4) (get_or p 0 d) (length gx % 4) q
+      → x ≡ convert binary32 (Ieee.add binary64 (Ieee.add binary64 q.xx (get_or p 1 d).xx) (Ieee.add binary64 (get_or p 2 d).xx (get_or p 3 d).xx))
+      → y ≡ convert binary32 (Ieee.add binary64 (Ieee.add binary64 q.xy (get_or p 1 d).xy) (Ieee.add binary64 (get_or p 2 d).xy (get_or p 3 d).xy))
+      → z ≡ convert binary32 (Ieee.add binary64 (Ieee.add binary64 q.yy (get_or p 1 d).yy) (Ieee.add binary64 (get_or p 2 d).yy (get_or p 3 d).yy))
       → c ≡ covariance x y z → c ≡ gram gx gy
-  sums_are l f q x y z h =
+  sums_are {p} d l f q x y z h =
       gram_is gx gy
-      (product_sum_is gx gx (length gx) refl f.zeroth.of_xx f.first.of_xx f.second.of_xx f.third.of_xx q.of_xx x)
-      (product_sum_is gx gy (length gx) refl f.zeroth.of_xy f.first.of_xy f.second.of_xy f.third.of_xy q.of_xy y)
-      (product_sum_is gy gy (length gx) l f.zeroth.of_yy f.first.of_yy f.second.of_yy f.third.of_yy q.of_yy z)
+      (product_sum_is gx gx (length gx) refl (lane 0 (omega arith)).of_xx (lane 1 (omega arith)).of_xx (lane 2 (omega arith)).of_xx (lane 3 (omega arith)).of_xx q.of_xx x)
+      (product_sum_is gx gy (length gx) refl (lane 0 (omega arith)).of_xy (lane 1 (omega arith)).of_xy (lane 2 (omega arith)).of_xy (lane 3 (omega arith)).of_xy q.of_xy y)
+      (product_sum_is gy gy (length gx) l (lane 0 (omega arith)).of_yy (lane 1 (omega arith)).of_yy (lane 2 (omega arith)).of_yy (lane 3 (omega arith)).of_yy q.of_yy z)
       h
+    where
+      lane : (l : ℕ) → l < 4 → Added gx gy 4 l none (length gx / 4) (get_or p l d)
+      lane l h = subst (Added gx gy 4 l none (length gx / 4)) (get_or_default p l none d (omega (arith, f.four))) (f.each l h)
+
+-- what a turn of `partials` begins and ends with
+pub ruleset turning = (turning_start, turning_end)

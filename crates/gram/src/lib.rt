@@ -1,29 +1,31 @@
 // The sum of gradients by their transposes: uncertainty.rs, `gram`.
 #![tactic(auto)]
 
-ghost use Rattle.std.specs.Prelude.{◌≡◌, ◌*◌, ◌/◌, ◌%◌, ◌<◌, length};
+ghost use Rattle.std.specs.Prelude.{◌≡◌, ◌*◌, ◌/◌, ◌%◌, ◌<◌, false, length};
 ghost use Rattle.std.specs.Float.Ieee.{add};
 ghost use Rattle.std.specs.Float.{binary32, binary64};
 ghost use Rattle.ieee.specs.Convert.{convert};
 ghost use Rattle.refine.specs.Covariance.{judged};
 ghost use Rattle.gram.specs.Gram.{gram};
-ghost use Rattle.gram.specs.Loops.{Added, FourSums, none, any_nan, Plain};
+ghost use Rattle.gram.specs.Loops.{Added, FourSums, any_nan};
 
-use refine::{Judged, PositionCovariance};
+use numbers::Number;
+use refine::PositionCovariance;
 
 // The sum of g by its transpose over gradients g = (gx, gy). Where a cell is a NaN, so is the sum of its squares.
-pub fn gram(gx: &[f32], gy: &[f32]) -> Judged
+pub fn gram(gx: &[f32], gy: &[f32]) -> Result<PositionCovariance, Number>
     requires { length gx.now ≡ length gy.now }
     ensures { result ≡ judged (gram gx.now gy.now) }
 {
     if any_nan(gx, gy) {
-        return Judged::Refused(13);
+        return Err(Number::NotFinite);
     }
-    let p = partials(gx, gy);
-    let p0 = with_rest(gx, gy, p.p0);
-    let xx = joined(p0.xx, p.p1.xx, p.p2.xx, p.p3.xx);
-    let xy = joined(p0.xy, p.p1.xy, p.p2.xy, p.p3.xy);
-    let yy = joined(p0.yy, p.p1.yy, p.p2.yy, p.p3.yy);
+    let plain = Plain { gx, gy };
+    let p = plain.partials();
+    let p0 = plain.with_rest(p[0]);
+    let xx = joined(p0.xx, p[1].xx, p[2].xx, p[3].xx);
+    let xy = joined(p0.xy, p[1].xy, p[2].xy, p[3].xy);
+    let yy = joined(p0.yy, p[1].yy, p[2].yy, p[3].yy);
     PositionCovariance::new(xx, xy, yy).finite()
 }
 
@@ -32,96 +34,71 @@ fn any_nan(gx: &[f32], gy: &[f32]) -> bool
     requires { length gx.now ≡ length gy.now }
     ensures { result ≡ any_nan gx.now gy.now (length gx.now) }
 {
-    let n = gx.len();
     let mut found = false;
-    let mut i = 0;
-    while i < n {
-        let x = gx[i];
-        let y = gy[i];
-        found = found | ((x != x) | (y != y));
-        i += 1;
+    for i in 0..gx.len() {
+        found |= gx[i].is_nan() | gy[i].is_nan();
     }
     found
 }
 
 // One partial sum of each component.
-#[derive(Drop)]
+#[derive(Clone, Copy, Default)]
 struct Three {
     xx: f64,
     xy: f64,
     yy: f64,
 }
 
-// Four partial sums, so that the additions don't wait on one chain.
-#[derive(Drop)]
-struct Four {
-    p0: Three,
-    p1: Three,
-    p2: Three,
-    p3: Three,
+// Gradients without a NaN, as two columns.
+#[derive(Clone, Copy)]
+struct Plain<'a> {
+    gx: &'a [f32],
+    gy: &'a [f32],
+    ghost even: { length gx.now ≡ length gy.now },
+    ghost no_nan: { any_nan gx.now gy.now (length gx.now) ≡ false },
 }
 
-fn partials(gx: &[f32], gy: &[f32]) -> Four
-    requires { Plain gx.now gy.now }
-    ensures { FourSums gx.now gy.now (length gx.now / 4)
-        result.p0 result.p1 result.p2 result.p3 }
-{
-    let fours = gx.len() / 4;
-    let mut p0 = none();
-    let mut p1 = none();
-    let mut p2 = none();
-    let mut p3 = none();
-    let mut k = 0;
-    while k < fours {
-        let i = k * 4;
-        p0 = with_products(p0, gx, gy, i);
-        p1 = with_products(p1, gx, gy, i + 1);
-        p2 = with_products(p2, gx, gy, i + 2);
-        p3 = with_products(p3, gx, gy, i + 3);
-        k += 1;
+impl Plain<'_> {
+    // Four partial sums, so that the additions don't wait on one chain.
+    #[tactic(auto, using(crate::proofs::Sums::turning))]
+    fn partials(self) -> [Three; 4]
+        ensures { FourSums self.entry.gx.now self.entry.gy.now (length self.entry.gx.now / 4) result }
+    {
+        let mut sums = [Three::default(); 4];
+        for k in 0..self.gx.len() / 4 {
+            for lane in 0..4 {
+                sums[lane] = self.with_products(sums[lane], k * 4 + lane);
+            }
+        }
+        sums
     }
-    Four { p0, p1, p2, p3 }
-}
 
-// s, and what is left past the whole fours added to it.
-fn with_rest(gx: &[f32], gy: &[f32], s: Three) -> Three
-    requires { Plain gx.now gy.now }
-    ensures { Added gx.now gy.now 1 (length gx.now / 4 * 4) s
-        (length gx.now % 4) result }
-{
-    let first = gx.len() / 4 * 4;
-    let rest = gx.len() % 4;
-    let mut sums = s;
-    let mut k = 0;
-    while k < rest {
-        let i = first + k;
-        sums = with_products(sums, gx, gy, i);
-        k += 1;
+    // s, and what is left past the whole fours added to it.
+    fn with_rest(self, s: Three) -> Three
+        ensures { Added self.entry.gx.now self.entry.gy.now 1 (length self.entry.gx.now / 4 * 4) s
+            (length self.entry.gx.now % 4) result }
+    {
+        let first = self.gx.len() / 4 * 4;
+        let mut sums = s;
+        for k in 0..self.gx.len() % 4 {
+            sums = self.with_products(sums, first + k);
+        }
+        sums
     }
-    sums
-}
 
-fn none() -> Three
-    ensures { result ≡ none }
-{
-    Three {
-        xx: 0.0,
-        xy: 0.0,
-        yy: 0.0,
-    }
-}
-
-// s, and the products at place i, which are exact in f64.
-fn with_products(s: Three, gx: &[f32], gy: &[f32], i: usize) -> Three
-    requires { Plain gx.now gy.now × (i < length gx.now) }
-    ensures { Added gx.now gy.now 1 i s 1 result }
-{
-    let x = gx[i] as f64;
-    let y = gy[i] as f64;
-    Three {
-        xx: s.xx + x * x,
-        xy: s.xy + x * y,
-        yy: s.yy + y * y,
+    // s, and the products at place i, which are exact in f64.
+    fn with_products(self, s: Three, i: usize) -> Three
+        requires { i < length self.gx.now }
+        ensures { Added self.entry.gx.now self.entry.gy.now 1 i s 1 result }
+    {
+        // `f64::from` would test each cell for a NaN anew
+        let x = self.gx[i] as f64;
+        let y = self.gy[i] as f64;
+        Three {
+            xx: s.xx + x * x,
+            xy: s.xy + x * y,
+            yy: s.yy + y * y,
+        }
     }
 }
 

@@ -1,4 +1,3 @@
 pub mod Parsing
-pub mod Remarks
 pub mod Laws
 pub mod Reading

@@ -11,9 +11,10 @@ use borrow.Author.Tests.{ltb-true, ltb-false, eqb-true, eqb-false}
 use Rattle.answer.specs.declared.Answer.{Answer}
 use Rattle.lid_bytes.specs.Input.{most_pixels}
 use Rattle.pgm.specs.declared.Head.{Head}
-use Rattle.pgm.specs.declared.Head.TheVariants.{Numbers, Missing}
-use Rattle.pgm.specs.declared.Pgm.TheVariants.{Refused}
-use Rattle.pgm.specs.Read.{header_bytes, head_of}
+use Rattle.std.specs.Prelude.{Option, Some, None, Err}
+use Rattle.numbers.specs.declared.Number.{Number}
+use Rattle.numbers.specs.declared.Number.TheVariants.{ManyPixels, PgmHeader, PgmMaximum, PgmRaster}
+use Rattle.pgm.specs.Read.{header_bytes, header_at, head_of}
 use Rattle.pgm.proofs.Heads.{head_front, head_sized}
 use Rattle.grey.specs.Grey.{grey_bytes, grey_judged, grey_parsed, grey_answer, grey_said}
 use Rattle.grey.specs.Remark.{grey_remark}
@@ -21,13 +22,13 @@ use Rattle.grey.proofs.Parsing.{at_21, at_16, at_22}
 use Rattle.grey.proofs.Laws.{zeros}
 
 -- one number for every length that is past what the header may ask for
-refused_past : (w h m s most : ℕ) → s + most_pixels ≤ most → (k : ℕ) × ((len : ℕ) → most < len → grey_judged len (Numbers w h m s) ≡ Refused k)
+refused_past : (w h m s most : ℕ) → s + most_pixels ≤ most → (k : Number) × ((len : ℕ) → most < len → grey_judged len (header_at w h m s) ≡ Err k)
 refused_past w h m s most past = by (eqb m 255) (ltb most_pixels (w * h)) refl refl
   where
-    by : (p q : Bool) → eqb m 255 ≡ p → ltb most_pixels (w * h) ≡ q → (k : ℕ) × ((len : ℕ) → most < len → grey_judged len (Numbers w h m s) ≡ Refused k)
-    by true true e f = (16, λ len l. at_16 len w h m s (eqb-true m 255 e) (ltb-true most_pixels (w * h) f))
-    by true false e f = (22, λ len l. at_22 len w h m s (eqb-true m 255 e) (ltb-false most_pixels (w * h) f) (λ z. omega (arith, ltb-false most_pixels (w * h) f)))
-    by false q e f = (21, λ len l. at_21 len w h m s (eqb-false m 255 e))
+    by : (p q : Bool) → eqb m 255 ≡ p → ltb most_pixels (w * h) ≡ q → (k : Number) × ((len : ℕ) → most < len → grey_judged len (header_at w h m s) ≡ Err k)
+    by true true e f = (ManyPixels, λ len l. at_16 len w h m s (eqb-true m 255 e) (ltb-true most_pixels (w * h) f))
+    by true false e f = (PgmRaster, λ len l. at_22 len w h m s (eqb-true m 255 e) (ltb-false most_pixels (w * h) f) (λ z. omega (arith, ltb-false most_pixels (w * h) f)))
+    by false q e f = (PgmMaximum, λ len l. at_21 len w h m s (eqb-false m 255 e))
 
 -- an input that goes on past n bytes is refused, by the same number as its first n
 module _ (n : ℕ) (all : header_bytes + most_pixels < n) (input : List ℕ) (long : n < length input) where
@@ -40,10 +41,10 @@ module _ (n : ℕ) (all : header_bytes + most_pixels < n) (input : List ℕ) (lo
       least : (a b : ℕ) → a < b → min a b ≡ a
       least a b h = omega arith
 
-  judged_both : (H : Head) → head_of input ≡ H → (k : ℕ) × (grey_judged (length front) H ≡ Refused k) × (grey_judged (length input) H ≡ Refused k)
-  judged_both Missing e = (20, refl, refl)
-  judged_both (Numbers w h m s) e =
-      let r = refused_past w h m s (header_bytes + most_pixels) (omega (arith, (head_sized input w h m s e).place.0)) in
+  judged_both : (H : Option Head) → head_of input ≡ H → (k : Number) × (grey_judged (length front) H ≡ Err k) × (grey_judged (length input) H ≡ Err k)
+  judged_both None e = (PgmHeader, refl, refl)
+  judged_both (Some H) e =
+      let r = refused_past H.width H.height H.maximum H.start (header_bytes + most_pixels) (omega (arith, (head_sized input H.width H.height H.maximum H.start e).place.0)) in
       (r.0, r.1 (length front) (omega (arith, front_long, all)), r.1 (length input) (omega (arith, all, long)))
 
   both : grey_answer front ≡ grey_answer input

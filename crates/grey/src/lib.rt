@@ -1,22 +1,22 @@
 // `pgmnoise`, from its input's bytes to its output's: parse, measure, print.
 #![tactic(auto)]
 
-ghost use Rattle.std.specs.Prelude.{◌≡◌, ◌≤◌, length, replicate};
-ghost use Rattle.io.specs.Counts.{IsPrefixLen};
-ghost use Rattle.lid_bytes.specs.Report.{report_bytes};
-ghost use Rattle.text.specs.Placed.{Fronted};
+ghost use Rattle.std.specs.Prelude.{◌≡◌, replicate};
 ghost use Rattle.grey.specs.Grey.{grey_bytes, grey_parsed, grey_answer, grey_output, grey_said};
-ghost use Rattle.grey.specs.Remark.{grey_remark, grey_remark_bytes};
+ghost use Rattle.grey.specs.Remark.{grey_remark};
 
 use answer::Answer;
-use lid::Lengths;
-use pgm::{Head, Pgm};
+use arrayvec::ArrayString;
+use lid::Said;
+use lid_bytes::MOST_PIXELS;
+use numbers::Number;
+use pgm::Image;
 
 // As many bytes as decide the answer: one more than the longest header and the largest raster have.
-const INPUT_BYTES: usize = 21 + lid_bytes::MOST_PIXELS + 1;
+pub const INPUT_BYTES: usize = 21 + MOST_PIXELS + 1;
 
 // As many as a remark may take.
-const REMARK_BYTES: usize = 151;
+pub const REMARK_BYTES: usize = 151;
 
 // Room for an input.
 pub fn input_room() -> [u8; INPUT_BYTES]
@@ -25,68 +25,55 @@ pub fn input_room() -> [u8; INPUT_BYTES]
     [0u8; INPUT_BYTES]
 }
 
-// Room for a remark.
-pub fn remark_room() -> [u8; REMARK_BYTES]
-    ensures { result ≡ replicate grey_remark_bytes 0 }
-{
-    [0u8; REMARK_BYTES]
-}
-
 // The image, where it has not too many pixels, or the first of 20, 21, 16, 22 that applies.
-pub fn parse(input: &[u8]) -> Pgm
+#[tactic(auto, unfolding(crate::specs::Grey::grey_parsed), using(pgm::proofs::Heads::few_pixels))]
+pub fn parse(input: &[u8]) -> Result<Image, Number>
     ensures { result ≡ grey_parsed input.now }
 {
-    let found = pgm::header(input);
-    let Head::Numbers(w, h, m, start) = found else {
-        return Pgm::Refused(20);
+    let Some(head) = pgm::header(input) else {
+        return Err(Number::PgmHeader);
     };
-    if m != 255 {
-        return Pgm::Refused(21);
+    if head.maximum != 255 {
+        return Err(Number::PgmMaximum);
     }
-    if w * h > lid_bytes::MOST_PIXELS {
-        return Pgm::Refused(16);
+    if head.width * head.height > MOST_PIXELS {
+        return Err(Number::ManyPixels);
     }
-    if input.len() != start + w * h {
-        return Pgm::Refused(22);
+    if input.len() != head.start + head.width * head.height {
+        return Err(Number::PgmRaster);
     }
-    Pgm::Image(w, h, start)
+    Ok(Image {
+        width: head.width,
+        height: head.height,
+        start: head.start,
+    })
 }
 
 // The answer to an input.
+#[tactic(auto, unfolding(crate::specs::Grey::grey_answer), using(crate::proofs::Parsing::image_has))]
 pub fn answer_to(input: &[u8]) -> Answer
     ensures { result ≡ grey_answer input.now }
 {
-    let parsed = parse(input);
-    match parsed {
-        Pgm::Image(w, h, start) => lid::measure_from(input, start, w, h),
-        Pgm::Refused(n) => noise::refuse(n),
-    }
+    lid::answer_found(input, parse(input))
 }
 
-// What is said of a number, from the front on: answers how long it is.
-fn remark(number: u32, out: &mut [u8]) -> usize
-    requires { grey_remark_bytes ≤ length out.old }
-    ensures fronted { Fronted out.old (grey_remark number) result out.new }
-    ensures prefix_len { IsPrefixLen result out.new }
+// What is said of a number.
+#[tactic(auto, unfolding(crate::specs::Remark::grey_remark, reasons::specs::Reasons::remark_by))]
+fn remark(number: u32) -> ArrayString<REMARK_BYTES>
+    ensures { result.bytes ≡ grey_remark number }
 {
-    if number == 0 {
-        return 0;
-    }
-    let to = text::put(out, 0, b"pgmnoise: no figure, ");
-    reasons::put_numbered(out, to, number)
+    reasons::remark("", "pgmnoise", number)
 }
 
-// What `pgmnoise` writes for an input, from the front of `out` and of `said` on.
-pub fn pgmnoise(input: &[u8], out: &mut [u8], said: &mut [u8]) -> Lengths
-    requires { (report_bytes ≤ length out.old) × (grey_remark_bytes ≤ length said.old) }
-    ensures fronted { Fronted out.old (grey_output input.now) result.output out.new }
-    ensures fronted_2 { Fronted said.old (grey_said input.now) result.remark said.new }
-    ensures prefix_len { IsPrefixLen result.output out.new × IsPrefixLen result.remark said.new }
+// What `pgmnoise` writes for an input.
+pub fn pgmnoise(input: &[u8]) -> Said<REMARK_BYTES>
+    ensures output { result.output.bytes ≡ grey_output input.now }
+    ensures remark { result.remark.bytes ≡ grey_said input.now }
 {
     let a = answer_to(input);
     let number = a.number;
-    Lengths {
-        output: lid_bytes::print(a, out),
-        remark: remark(number, said),
+    Said {
+        output: lid_bytes::report(a),
+        remark: remark(number),
     }
 }

@@ -5,8 +5,10 @@ use Prim.Native.Nat.{ℕ, ◌*◌}
 use native.Mathlib.Omega.{arith}
 use Rattle.grid.specs.Step.{step_of}
 use Rattle.grid.specs.Grid.{Place, first_x, places_of, total_of}
-use Rattle.grid.specs.Needed.{first_w, second_w, needed_of, sizing_of, size_number, size_windows}
-use Rattle.grid.specs.declared.Size.TheVariants.{Windows, SideAbove, SideBelow}
+use Rattle.grid.specs.Needed.{first_w, second_w, needed_of, sizing_of, size_windows}
+use Rattle.std.specs.Prelude.{Ok, Err}
+use Rattle.numbers.specs.Numbers.{number_in}
+use Rattle.numbers.specs.declared.Number.TheVariants.{SideAbove, SideBelow}
 use Rattle.grid.proofs.Places.{total_sum}
 use Rattle.grid.proofs.Memory.{needed_both}
 
@@ -62,12 +64,12 @@ most_needed = omega (arith, needed_both 15887 132 (λ (e : 16 ≡ 1). omega arit
 
 -- 1, then 3
 pub sizes : sizing_of 16385 3 ∷ sizing_of 3 16385 ∷ sizing_of 16384 3 ∷ sizing_of 3 16384 ∷ sizing_of 4 5 ∷ []
-    ≡ SideAbove ∷ SideAbove ∷ SideBelow ∷ SideBelow ∷ Windows 2 ∷ []
+    ≡ Err SideAbove ∷ Err SideAbove ∷ Err SideBelow ∷ Err SideBelow ∷ Ok 2 ∷ []
 unfolding sizing_of needed_of places_of step_of
 sizes = refl
 
-pub numbers : map size_number (SideAbove ∷ SideBelow ∷ Windows 7 ∷ []) ≡ 1 ∷ 3 ∷ 0 ∷ []
+pub numbers : map (number_in {A = ℕ}) (Err SideAbove ∷ Err SideBelow ∷ Ok 7 ∷ []) ≡ 1 ∷ 3 ∷ 0 ∷ []
 numbers = refl
 
-pub figures : map size_windows (SideAbove ∷ SideBelow ∷ Windows 7 ∷ []) ≡ 0 ∷ 0 ∷ 7 ∷ []
+pub figures : map size_windows (Err SideAbove ∷ Err SideBelow ∷ Ok 7 ∷ []) ≡ 0 ∷ 0 ∷ 7 ∷ []
 figures = refl

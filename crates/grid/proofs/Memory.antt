@@ -1,27 +1,22 @@
--- M holds either pass, and is no more than one of them asks for; each case of the sizing call's answer says its own. Assumes nothing.
+-- M holds either pass, and is no more than one of them asks for, and the sides that the sizing call takes are those of a pass. Assumes nothing.
 use mathlib.Core.Path.{◌≡◌, refl, ap, ◌∙◌, subst}
 use mathlib.Core.Bool.{Bool, true, false, cond}
 use mathlib.Core.Logic.{◌↔◌}
 use Prim.Native.Nat.{ℕ, ◌*◌, ◌≤◌, ◌<◌, max}
 use native.Mathlib.Omega.{arith}
-use borrow.Author.Tests.{eq-eqb, ne_eqb, eqb-true, eqb-false, le-ltb}
+use borrow.Author.Tests.{ne_eqb, eqb-true, eqb-false, le-ltb}
 use lib.Dec.{eqb}
 use lib.ListN.{length}
 use Rattle.laws.specs.Lists.{joined}
-use Rattle.laws.proofs.Choice.{chosen, passed}
+use Rattle.laws.proofs.Choice.{passed}
 use Rattle.limits.specs.Limits.{too_large, too_small}
 use Rattle.limits.proofs.Laws.{not_large, not_small}
 use Rattle.grid.specs.Step.{step_of}
 use Rattle.grid.specs.Grid.{Sides, row_of, rows_of, places_of, total_of}
-use Rattle.grid.specs.Needed.{first_w, second_w, needed_of, sizing_of}
+use Rattle.grid.specs.Needed.{first_w, second_w, needed_of}
 use Rattle.grid.proofs.Steps.{step_is, step_unique}
-use Rattle.grid.specs.declared.Size.TheVariants.{Windows, SideAbove, SideBelow}
 
 module _ (w h : ℕ) where
-  pub needed_one : step_of (w * h) first_w ≡ 1 → total_of w h first_w ≡ needed_of w h
-  unfolding needed_of
-  needed_one e = chosen (eqb (step_of (w * h) first_w) 1) (total_of w h first_w) (max (total_of w h first_w) (total_of w h second_w)) (eq-eqb (step_of (w * h) first_w) 1 e)
-
   pub needed_both : (step_of (w * h) first_w ≡ 1 → ⊥) → max (total_of w h first_w) (total_of w h second_w) ≡ needed_of w h
   unfolding needed_of
   needed_both n = passed (eqb (step_of (w * h) first_w) 1) (total_of w h first_w) (max (total_of w h first_w) (total_of w h second_w)) (ne_eqb (step_of (w * h) first_w) 1 n)
@@ -72,8 +67,6 @@ needed_max w h = go (eqb (step_of (w * h) first_w) 1) refl
         omega (arith, ap (λ (s : ℕ). length (joined (row_of w s) 0 (rows_of h s))) (k ∙ one k))
     go false e = refl
 
--- ---- the sizing call's answer
-
 -- the sides that a pass takes are those that neither 1 nor 3 refuses
 pub sides_taken : (w h : ℕ) → Sides w h ↔ ((too_large w h ≡ false) × (too_small w h ≡ false))
 sides_taken w h = (
@@ -83,16 +76,3 @@ sides_taken w h = (
       let m = not_small w h e.1 in
       record { wide = m.0; high = m.1; w_most = l.0; h_most = l.1 },
 )
-
-module _ (w h : ℕ) where
-  pub above : too_large w h ≡ true → SideAbove ≡ sizing_of w h
-  unfolding sizing_of
-  above e = chosen (too_large w h) SideAbove (cond (too_small w h) SideBelow (Windows (needed_of w h))) e
-
-  pub below : too_large w h ≡ false → too_small w h ≡ true → SideBelow ≡ sizing_of w h
-  unfolding sizing_of
-  below e f = rw (e, f) refl
-
-  pub sized : too_large w h ≡ false → too_small w h ≡ false → Windows (needed_of w h) ≡ sizing_of w h
-  unfolding sizing_of
-  sized e f = rw (e, f) refl

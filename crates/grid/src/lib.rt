@@ -4,39 +4,54 @@
 
 ghost use Rattle.std.specs.Prelude.{◌≡◌, ◌+◌, ◌*◌, ◌<◌, ◌≤◌, ◌^◌};
 ghost use Rattle.grid.specs.Step.{step_of};
-ghost use Rattle.grid.specs.Grid.{Sides, count_below, first_x, row_count, rows_of, total_of};
+ghost use Rattle.grid.specs.Grid.{Sides, first_x, row_count, rows_of, total_of};
 ghost use Rattle.grid.specs.Needed.{needed_of, sizing_of};
+
+use numbers::Number;
 
 // W of the first pass: about this many windows are sampled.
 pub const WINDOWS: usize = 8192;
 // W of the second pass.
 pub const DENSE: usize = 32_768;
 
-// The least whole step, 1 or more, whose square times `windows` reaches the number of pixels.
-pub fn step(w: usize, h: usize, windows: usize) -> usize
-    requires { Sides w h × (1 ≤ windows) }
-    ensures { result ≡ step_of (w * h) windows }
-{
-    let pixels = w * h;
-    let mut s = 1;
-    while s * s * windows < pixels {
-        s += 1;
-    }
-    s
+// The grid over an image of w by h, sides that a pass takes, W being `windows`.
+#[derive(Clone, Copy)]
+pub struct Grid {
+    pub w: usize,
+    pub h: usize,
+    pub windows: usize,
+    pub ghost sides: { Sides w h },
+    pub ghost some: { 1 ≤ windows },
 }
 
-// How many of first, first + s, first + 2s, .. lie below end.
-fn count_below(first: usize, s: usize, end: usize) -> usize
-    requires { 1 ≤ s }
-    ensures { result ≡ count_below first s end }
-{
-    if end <= first {
-        return 0;
+impl Grid {
+    // The least whole step, 1 or more, whose square times `windows` reaches the number of pixels.
+    pub fn step(self) -> usize
+        ensures { result ≡ step_of (self.w * self.h) self.windows }
+    {
+        let pixels = self.w * self.h;
+        // Not a range's `find`: that needs a top to look up to, and an answer past it.
+        let mut s = 1;
+        while s * s * self.windows < pixels {
+            s += 1;
+        }
+        s
     }
-    (end - first - 1) / s + 1
+
+    // T: how many windows the pass has.
+    pub fn window_count(self) -> usize
+        ensures { result ≡ total_of self.w self.h self.windows }
+    {
+        let s = self.step();
+        let mut t = 0;
+        for j in 0..rows(self.h, s) {
+            t += row_count(self.w, s, j);
+        }
+        t
+    }
 }
 
-// The first x of grid row j: the fraction of j times 0.618034, times the step. The product passes 2^32.
+// The first x of grid row j: the fraction of j times 0.618034, times the step. The product passes 2^32. It asks less than a grid.
 pub fn first_x(j: usize, s: usize) -> usize
     requires { (j < 2 ^ 32) × (s < 2 ^ 32) }
     ensures { result ≡ first_x j s }
@@ -44,71 +59,55 @@ pub fn first_x(j: usize, s: usize) -> usize
     j * 618_034 % 1_000_000 * s / 1_000_000
 }
 
-// How many windows grid row j has.
+// How many windows grid row j has. It asks less than a grid: a width and a step, whatever the height.
 pub fn row_count(w: usize, s: usize, j: usize) -> usize
     requires { (4 ≤ w) × (1 ≤ s) × (j < 2 ^ 32) × (s < 2 ^ 32) }
     ensures { result ≡ row_count w s j }
 {
-    count_below(first_x(j, s), s, w - 3)
+    (w - 3).saturating_sub(first_x(j, s)).div_ceil(s)
 }
 
-// How many rows the grid has.
+// How many rows the grid has, which a height and a step decide.
 pub fn rows(h: usize, s: usize) -> usize
     requires { (4 ≤ h) × (1 ≤ s) }
     ensures { result ≡ rows_of h s }
 {
-    count_below(0, s, h - 3)
-}
-
-// T: how many windows the pass has.
-pub fn window_count(w: usize, h: usize, windows: usize) -> usize
-    requires { Sides w h × (1 ≤ windows) }
-    ensures { result ≡ total_of w h windows }
-{
-    let s = step(w, h, windows);
-    let m = rows(h, s);
-    let mut t = 0;
-    let mut j = 0;
-    while j < m {
-        t += row_count(w, s, j);
-        j += 1;
-    }
-    t
+    (h - 3).div_ceil(s)
 }
 
 // M: for how many windows a noise call needs memory, whichever pass decides.
+#[tactic(auto, unfolding(crate::specs::Needed::needed_of))]
 pub fn needed(w: usize, h: usize) -> usize
     requires { Sides w h }
     ensures { result ≡ needed_of w h }
 {
-    let first = window_count(w, h, WINDOWS);
-    if step(w, h, WINDOWS) == 1 {
-        return first;
+    let first = Grid {
+        w,
+        h,
+        windows: WINDOWS,
+    };
+    if first.step() == 1 {
+        return first.window_count();
     }
-    let second = window_count(w, h, DENSE);
-    if first < second { second } else { first }
+    let second = Grid {
+        w,
+        h,
+        windows: DENSE,
+    };
+    first.window_count().max(second.window_count())
 }
 
-// What the sizing call answers: M, or why there is none.
-#[derive(Drop)]
-pub enum Size {
-    // M windows: an i32 slice of 3M and an f32 slice of 2M + 2 serve the noise call.
-    Windows(usize),
-    // A side above 16,384.
-    SideAbove,
-    // A side below 4.
-    SideBelow,
-}
-
-// The work memory that the noise call needs for an image of w by h.
-pub fn sizing(w: usize, h: usize) -> Size
+// The work memory that the noise call needs for an image of w by h: M windows, for which an i32 slice of 3M and an f32 slice of
+// 2M + 2 serve. Else a side is above 16,384 or below 4.
+#[tactic(auto, unfolding(crate::specs::Needed::sizing_of))]
+pub fn sizing(w: usize, h: usize) -> Result<usize, Number>
     ensures { result ≡ sizing_of w h }
 {
     if limits::too_large(w, h) {
-        return Size::SideAbove;
+        return Err(Number::SideAbove);
     }
     if limits::too_small(w, h) {
-        return Size::SideBelow;
+        return Err(Number::SideBelow);
     }
-    Size::Windows(needed(w, h))
+    Ok(needed(w, h))
 }

@@ -8,35 +8,8 @@ ghost use Rattle.imageview.specs.Sample.{clamped, sample};
 pub fn place(v: i32, o: i32, most: usize) -> usize
     ensures { result ≡ clamped (v +ℤ o) most }
 {
-    let g = v as i64 + o as i64;
-    if g < 0 {
-        return 0;
-    }
-    let n = g as usize;
-    if n < most { n } else { most }
-}
-
-// The sample at (x, y), on the slice and numbers.
-pub fn sample_at(
-    pixels: &[u8],
-    width: usize,
-    height: usize,
-    origin: [i32; 2],
-    x: i32,
-    y: i32,
-) -> f32
-    requires { length pixels.now ≡ width * height }
-    ensures { result ≡ sample pixels.now width height origin x y }
-{
-    if width == 0 {
-        return 0.0;
-    }
-    if height == 0 {
-        return 0.0;
-    }
-    let lx = place(x, origin[0], width - 1);
-    let ly = place(y, origin[1], height - 1);
-    pixels[ly * width + lx] as f32
+    let g = i64::from(v) + i64::from(o);
+    if g < 0 { 0 } else { (g as usize).min(most) }
 }
 
 // Lent pixels, row by row, with the sides and the origin that a place is moved by.
@@ -54,12 +27,7 @@ impl<'a> ImageView<'a> {
         ensures { (result.pixels ≡ pixels.entry) × (result.width ≡ width) × (result.height ≡ height)
             × (result.origin ≡ pos 0 ∷ pos 0 ∷ []) }
     {
-        Self {
-            pixels,
-            width,
-            height,
-            origin: [0, 0],
-        }
+        Self::with_origin(width, height, pixels, [0, 0])
     }
 
     // The same with an origin.
@@ -74,12 +42,18 @@ impl<'a> ImageView<'a> {
         }
     }
 
-    // The sample at (x, y).
+    // The sample at (x, y). The length is asked here and not of every view, which would ask more of `with_origin`.
     pub fn sample(self, x: i32, y: i32) -> f32
         requires { length self.pixels.now ≡ self.width * self.height }
         ensures { result ≡
             sample self.entry.pixels.now self.entry.width self.entry.height self.entry.origin x y }
     {
-        sample_at(self.pixels, self.width, self.height, self.origin, x, y)
+        if self.width == 0 || self.height == 0 {
+            return 0.0;
+        }
+        let lx = place(x, self.origin[0], self.width - 1);
+        let ly = place(y, self.origin[1], self.height - 1);
+        let at = ly * self.width + lx;
+        f32::from(self.pixels[at])
     }
 }

@@ -1,5 +1,5 @@
 -- Worked examples: each tells its definition from one that takes another order, rounding, bound or constant.
-use Rattle.std.specs.Prelude.{◌≡◌, refl, false, List, [], ◌∷◌, ℕ, Float}
+use Rattle.std.specs.Prelude.{◌≡◌, refl, false, List, [], ◌∷◌, ℕ, Option, Some, None, Ok, Err, Float}
 use Rattle.std.proofs.Common.{◌∙◌}
 use Rattle.std.specs.Float.{binary32, binary64}
 use Rattle.std.specs.Float.Ieee.{round, add, sub, neg, mul, div, lt, le, eq, is_nan, of_bits, of_int}
@@ -7,20 +7,23 @@ use Rattle.ieee.specs.Convert.{convert}
 use Rattle.ieee.specs.Numbers.{plus_zero, f64_of}
 use Rattle.ieee.specs.Order.{larger, magnitude, total_less, negative}
 use Rattle.ieee.specs.Sqrt.{sqrt}
+use Rattle.numbers.specs.declared.Number.TheVariants.{Few, NoBand, Thin}
 use Rattle.laws.specs.Lists.{from}
 use Rattle.quantile.specs.Quantile.{quiet}
 use Rattle.sums.specs.Admitted.{total_with, no_total, threshold, cut}
 use Rattle.sums.specs.Start.{mean, mean_quiet, start}
 use Rattle.sums.specs.declared.Total.{Total}
-use Rattle.rounds.specs.Rounds.{next, near, settled_at, one_round, max_rounds, settle, judged_band, band_variance}
+use Rattle.rounds.specs.Rounds.{next, near, settled_at, one_round, max_rounds, settle, found_at, judged_band, band_variance}
 use Rattle.rounds.specs.declared.Found.{Found}
-use Rattle.rounds.specs.declared.Found.TheVariants.{Variance, Missing}
 use Rattle.joining.specs.Joining.{median, outlier_limit, with_band, joined_bands, deviation, sigma_of_total, sigma_of, noise, noise_under}
-use Rattle.joining.specs.declared.Sigma.TheVariants.{Figure, Number}
 use Rattle.joining.specs.declared.Noise.{Noise}
 
 abbrev total : ℕ → ℕ → Total
 total n sum = total_with n (f64_of sum)
+
+-- a band of n windows with that variance
+abbrev band : ℕ → Float → Option Found
+band n var = Some (found_at n var)
 
 abbrev thirds : ℕ → Float
 thirds n = round binary64 false n 3
@@ -47,8 +50,8 @@ unfolding outlier_limit larger lt eq mul of_bits of_int round
 least_median = refl
 
 -- three bands at a median, and one of 150 windows beside them
-abbrev beside : Float → Float → List Found
-beside med var = Variance 600 med ∷ Variance 200 med ∷ Variance 150 med ∷ Variance 150 var ∷ []
+abbrev beside : Float → Float → List (Option Found)
+beside med var = band 600 med ∷ band 200 med ∷ band 150 med ∷ band 150 var ∷ []
 
 -- the limit is 3 times the median, 100: a band at 300 joins, one at 301 does not
 pub at_the_limit : (joined_bands (beside (f64_of 100) (f64_of 300))).n ≡ 1100
@@ -66,12 +69,12 @@ unfolding joined_bands outlier_limit median total_less negative is_nan larger lt
 limit_rounded = (refl, refl)
 
 -- a band without a variance does not count; at a median of 10 a band at 99 joins, since the limit is 100 at least
-pub missing : (joined_bands (Variance 300 (f64_of 10) ∷ Missing ∷ Variance 300 (f64_of 99) ∷ Variance 150 (f64_of 10) ∷ [])).n ≡ 750
+pub missing : (joined_bands (band 300 (f64_of 10) ∷ None ∷ band 300 (f64_of 99) ∷ band 150 (f64_of 10) ∷ [])).n ≡ 750
 unfolding joined_bands outlier_limit median total_less negative is_nan larger lt le eq add mul of_int round
 missing = refl
 
 -- each band adds its variance times its count, rounded, in the bands' order
-pub in_band_order : joined_bands (Variance 300 (thirds 278) ∷ Variance 500 (thirds 157) ∷ Missing ∷ Variance 200 (thirds 262) ∷ [])
+pub in_band_order : joined_bands (band 300 (thirds 278) ∷ band 500 (thirds 157) ∷ None ∷ band 200 (thirds 262) ∷ [])
     ≡ total_with 1000 (of_bits binary64 0x40F1_7095_5555_5556)
 unfolding joined_bands outlier_limit median total_less negative is_nan larger lt le eq add mul of_bits of_int round
 in_band_order = refl
@@ -108,8 +111,8 @@ weight_divides = (refl, refl)
 -- ---- the answer
 
 -- 511 windows joined are too few, 512 are not; no band with a variance is another matter
-pub numbers : (sigma_of_total (total 511 0) ≡ Number 7) × (sigma_of_total (total 512 0) ≡ Figure plus_zero)
-    × (sigma_of (Missing ∷ Missing ∷ Missing ∷ Missing ∷ []) ≡ Number 6)
+pub numbers : (sigma_of_total (total 511 0) ≡ Err Thin) × (sigma_of_total (total 512 0) ≡ Ok plus_zero)
+    × (sigma_of (None ∷ None ∷ None ∷ None ∷ []) ≡ Err NoBand)
 unfolding sigma_of_total deviation sigma_of sqrt convert div of_int round
 numbers = (refl, refl, refl)
 
@@ -120,13 +123,13 @@ zeros n = from (λ (k : ℕ). f64_of 0) 0 n
 abbrev in_band0 : ℕ → List ℕ
 in_band0 n = 0 ∷ n ∷ n ∷ n ∷ n ∷ []
 
-pub few : noise (zeros 511) (zeros 511) (in_band0 511) ≡ record { sigma = Number 5; rounds = 0 }
+pub few : noise (zeros 511) (zeros 511) (in_band0 511) ≡ record { sigma = Err Few; rounds = 0 }
 unfolding noise
 few = refl
 
 -- after three rounds for the image, one for a band of 128 windows and none for an empty band
 pub four_rounds : noise_under (zeros 128) (zeros 128) (in_band0 128) (settled_at 128 (f64_of 0) 3)
-    ≡ record { sigma = Number 7; rounds = 4 }
+    ≡ record { sigma = Err Thin; rounds = 4 }
 unfolding noise_under sigma_of sigma_of_total joined_bands outlier_limit median band_variance judged_band settle max_rounds one_round next near start quiet mean_quiet mean
     threshold cut convert total_less negative is_nan larger magnitude sub neg add mul div lt le eq of_int round
 four_rounds = refl
@@ -135,23 +138,23 @@ four_rounds = refl
 abbrev from128 : List ℕ → Noise
 from128 starts = noise_under (zeros 128) (zeros 128) starts (settled_at 128 (f64_of 0) 3)
 
-pub each_band : (from128 (0 ∷ 0 ∷ 128 ∷ 128 ∷ 128 ∷ []) ≡ record { sigma = Number 7; rounds = 4 })
-    × (from128 (0 ∷ 0 ∷ 0 ∷ 128 ∷ 128 ∷ []) ≡ record { sigma = Number 7; rounds = 4 })
-    × (from128 (0 ∷ 0 ∷ 0 ∷ 0 ∷ 128 ∷ []) ≡ record { sigma = Number 7; rounds = 4 })
+pub each_band : (from128 (0 ∷ 0 ∷ 128 ∷ 128 ∷ 128 ∷ []) ≡ record { sigma = Err Thin; rounds = 4 })
+    × (from128 (0 ∷ 0 ∷ 0 ∷ 128 ∷ 128 ∷ []) ≡ record { sigma = Err Thin; rounds = 4 })
+    × (from128 (0 ∷ 0 ∷ 0 ∷ 0 ∷ 128 ∷ []) ≡ record { sigma = Err Thin; rounds = 4 })
 unfolding noise_under sigma_of sigma_of_total joined_bands outlier_limit median band_variance judged_band settle max_rounds one_round next near start quiet mean_quiet mean
     threshold cut convert total_less negative is_nan larger magnitude sub neg add mul div lt le eq of_int round
 each_band = (refl, refl, refl)
 
 -- four bands of 128 windows are joined to 512, and each has its round
 pub all_bands : noise_under (zeros 512) (zeros 512) (0 ∷ 128 ∷ 256 ∷ 384 ∷ 512 ∷ []) (settled_at 512 (f64_of 0) 3)
-    ≡ record { sigma = Figure plus_zero; rounds = 7 }
+    ≡ record { sigma = Ok plus_zero; rounds = 7 }
 unfolding noise_under sigma_of sigma_of_total deviation sqrt joined_bands outlier_limit median band_variance judged_band settle max_rounds one_round next near start quiet
     mean_quiet mean threshold cut convert total_less negative is_nan larger magnitude sub neg add mul div lt le eq of_int round
 all_bands = refl
 
 -- a band's two rounds count also where it has no variance in the end: one of about 1,001, above 8 times the image's 100
 pub rounds_without_variance : noise_under (zeros 128) (from (λ (k : ℕ). f64_of 1000) 0 128) (in_band0 128) (settled_at 128 (f64_of 100) 3)
-    ≡ record { sigma = Number 6; rounds = 5 }
+    ≡ record { sigma = Err NoBand; rounds = 5 }
 unfolding noise_under sigma_of band_variance judged_band settle max_rounds one_round next near start quiet mean_quiet mean threshold cut convert total_less
     negative is_nan larger magnitude sub neg add mul div lt le eq of_int round
 rounds_without_variance = refl

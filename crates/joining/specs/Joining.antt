@@ -1,10 +1,12 @@
 -- The joining of the bands: noise.rs, `noise_sigma`; document 01, "Joining".
-use Rattle.std.specs.Prelude.{cond, List, [], ◌∷◌, ◌++◌, ℕ, zero, suc, ◌+◌, ◌-◌, ◌/◌, ◌%◌, eqb, ltb, length, Float}
+use Rattle.std.specs.Prelude.{cond, List, [], ◌∷◌, ◌++◌, ℕ, zero, suc, ◌+◌, ◌-◌, ◌/◌, ◌%◌, eqb, ltb, length, Option, Some, None, Result, Ok, Err, Float}
 use Rattle.std.specs.Float.{binary32, binary64}
 use Rattle.std.specs.Float.Ieee.{add, mul, div, le}
 use Rattle.ieee.specs.Convert.{convert}
 use Rattle.ieee.specs.Order.{larger}
 use Rattle.ieee.specs.Sqrt.{sqrt}
+use Rattle.numbers.specs.declared.Number.{Number}
+use Rattle.numbers.specs.declared.Number.TheVariants.{Few, NoBand, Thin}
 use Rattle.laws.specs.Lists.{from}
 use Rattle.quantile.specs.Rising.{at, rising}
 use Rattle.ieee.specs.Numbers.{plus_zero, f64_of}
@@ -14,20 +16,17 @@ use Rattle.rounds.specs.Rounds.{band, band_variance, image_variance}
 use Rattle.sums.specs.declared.Total.{Total}
 use Rattle.rounds.specs.declared.Settled.{Settled}
 use Rattle.rounds.specs.declared.Found.{Found}
-use Rattle.rounds.specs.declared.Found.TheVariants.{Variance, Missing}
 use Rattle.rounds.specs.declared.BandVariance.{BandVariance}
 use Rattle.joining.specs.Numbers.{max_band_outlier, operator_gain, half}
-use Rattle.joining.specs.declared.Sigma.{Sigma}
-use Rattle.joining.specs.declared.Sigma.TheVariants.{Figure, Number}
 use Rattle.joining.specs.declared.Noise.{Noise}
 
 -- ---- the variances that there are, and their median
 
-abbrev pub variance_of : Found → List Float
-variance_of (Variance n var) = var ∷ []
-variance_of Missing = []
+abbrev pub variance_of : Option Found → List Float
+variance_of (Some f) = f.var ∷ []
+variance_of None = []
 
-abbrev pub variances : List Found → List Float
+abbrev pub variances : List (Option Found) → List Float
 variances [] = []
 variances (f ∷ bands) = variance_of f ++ variances bands
 
@@ -48,16 +47,16 @@ outlier_limit med = mul binary64 max_band_outlier (larger med rounding_op_var)
 abbrev pub with_band : Total → ℕ → Float → Total
 with_band k n var = total_with (k.n + n) (add binary64 k.sum (mul binary64 (f64_of n) var))
 
-abbrev pub with_found : Float → Total → Found → Total
-with_found limit k (Variance n var) = cond (le var limit) (with_band k n var) k
-with_found limit k Missing = k
+abbrev pub with_found : Float → Total → Option Found → Total
+with_found limit k (Some f) = cond (le f.var limit) (with_band k f.n f.var) k
+with_found limit k None = k
 
 -- k and then each band in turn
-abbrev pub join_from : Float → Total → List Found → Total
+abbrev pub join_from : Float → Total → List (Option Found) → Total
 join_from limit k [] = k
 join_from limit k (f ∷ bands) = join_from limit (with_found limit k f) bands
 
-unfoldable pub joined_bands : List Found → Total
+unfoldable pub joined_bands : List (Option Found) → Total
 joined_bands bands = join_from (outlier_limit (median (variances bands))) no_total bands
 
 -- ---- the answer
@@ -70,17 +69,17 @@ min_samples = 512
 unfoldable pub deviation : Total → Float
 deviation k = convert binary32 (div binary64 (sqrt binary64 (div binary64 k.sum (f64_of k.n))) operator_gain)
 
-unfoldable pub sigma_of_total : Total → Sigma
-sigma_of_total k = cond (ltb k.n min_samples) (Number 7) (Figure (deviation k))
+unfoldable pub sigma_of_total : Total → Result Float Number
+sigma_of_total k = cond (ltb k.n min_samples) (Err Thin) (Ok (deviation k))
 
-unfoldable pub sigma_of : List Found → Sigma
-sigma_of bands = cond (eqb (length (variances bands)) 0) (Number 6) (sigma_of_total (joined_bands bands))
+unfoldable pub sigma_of : List (Option Found) → Result Float Number
+sigma_of bands = cond (eqb (length (variances bands)) 0) (Err NoBand) (sigma_of_total (joined_bands bands))
 
 -- the variance of band b
 abbrev pub band_at : List Float → List Float → List ℕ → Float → ℕ → BandVariance
 band_at g o starts image b = band_variance (band g starts b) (band o starts b) image
 
-abbrev pub founds : List Float → List Float → List ℕ → Float → List Found
+abbrev pub founds : List Float → List Float → List ℕ → Float → List (Option Found)
 founds g o starts image = from (λ (b : ℕ). (band_at g o starts image b).found) 0 4
 
 -- the rounds of the first b bands
@@ -95,14 +94,10 @@ noise_under g o starts image =
 
 unfoldable pub noise : List Float → List Float → List ℕ → Noise
 noise g o starts =
-    cond (ltb (length g) min_samples) (record { sigma = Number 5; rounds = 0 }) (noise_under g o starts (image_variance g o starts))
+    cond (ltb (length g) min_samples) (record { sigma = Err Few; rounds = 0 }) (noise_under g o starts (image_variance g o starts))
 
--- ---- document 01's number, and its sigma: zero unless the number is 0
+-- ---- document 01's sigma: zero unless its number, which is `number_in`, is 0
 
-abbrev pub number_of : Sigma → ℕ
-number_of (Figure s) = 0
-number_of (Number n) = n
-
-abbrev pub figure_of : Sigma → Float
-figure_of (Figure s) = s
-figure_of (Number n) = plus_zero
+abbrev pub figure_of : Result Float Number → Float
+figure_of (Ok s) = s
+figure_of (Err why) = plus_zero

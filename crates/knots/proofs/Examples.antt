@@ -8,7 +8,7 @@ use lib.Ieee
 use lib.Ieee.{Float, binary32, of_bits}
 use Rattle.ieee.specs.Order.{finite}
 use Rattle.ranges.specs.Ranges.{within}
-use Rattle.knots.specs.declared.Width.TheVariants.{Known, Unknown}
+use Rattle.std.specs.Prelude.{Some, None}
 use Rattle.knots.specs.Places.{rises_at, knot_at, place, value_at}
 
 abbrev floats : List ℕ → List Float
@@ -16,7 +16,7 @@ floats l = map (of_bits binary32) l
 
 -- the gain of three knots at a width
 abbrev gain_at : List ℕ → List ℕ → ℕ → Float
-gain_at widths gains w = value_at (floats gains) (place (floats widths) 3 (Known (of_bits binary32 w)))
+gain_at widths gains w = value_at (floats gains) (place (floats widths) 3 (Some (of_bits binary32 w)))
 
 -- the widths 0, 3 and 4
 abbrev apart : List ℕ
@@ -75,7 +75,7 @@ abbrev three : List ℕ
 three = 0x4000_0000 ∷ 0x4040_0000 ∷ 0x4080_0000 ∷ []
 
 -- gains 2, 3, 4: an infinite width or a NaN gives the first, and so do -1 and none; 5 gives the last
-pub ends : gain_at apart three 0x7f80_0000 ∷ gain_at apart three 0xff80_0000 ∷ gain_at apart three 0x7fc0_0000 ∷ gain_at apart three 0xbf80_0000 ∷ value_at (floats three) (place (floats apart) 3 Unknown) ∷ gain_at apart three 0x40a0_0000 ∷ []
+pub ends : gain_at apart three 0x7f80_0000 ∷ gain_at apart three 0xff80_0000 ∷ gain_at apart three 0x7fc0_0000 ∷ gain_at apart three 0xbf80_0000 ∷ value_at (floats three) (place (floats apart) 3 None) ∷ gain_at apart three 0x40a0_0000 ∷ []
     ≡ floats (0x4000_0000 ∷ 0x4000_0000 ∷ 0x4000_0000 ∷ 0x4000_0000 ∷ 0x4000_0000 ∷ 0x4080_0000 ∷ [])
 unfolding value_at place finite of_bits Ieee.le Ieee.lt Ieee.eq Ieee.add Ieee.sub Ieee.mul Ieee.div
 ends = refl

@@ -3,14 +3,12 @@ use mathlib.Core.Path.{◌≡◌, refl, sym, ap, ◌∙◌}
 use mathlib.Core.Bool.{Bool, true, false, cond, not, ◌&&◌, false≢true}
 use mathlib.Core.List.{List}
 use Prim.Native.Nat.{ℕ, zero, suc, ◌+◌, ◌-◌, ◌≤◌, ◌<◌}
-use native.Mathlib.Nat.{le_antisymm}
 use native.Mathlib.Numerals.{add-one}
 use native.Mathlib.Omega.{arith}
 use lib.Ieee.{Float, nan, inf, fin, le, lt, eq, is_nan}
 use Rattle.laws.proofs.Choice.{chosen, passed, cond_both}
 use Rattle.ieee.specs.Order.{finite}
-use Rattle.knots.specs.declared.Width.{Width}
-use Rattle.knots.specs.declared.Width.TheVariants.{Known, Unknown}
+use Rattle.std.specs.Prelude.{Option, Some, None}
 use Rattle.knots.specs.declared.Place.TheVariants.{Knot, Between}
 use Rattle.laws.proofs.Refusing.{and, and_right}
 use Rattle.ranges.specs.Arith.{◌⊖◌, ◌⊘◌, at}
@@ -18,12 +16,6 @@ use Rattle.ranges.specs.Ranges.{within}
 use Rattle.ranges.proofs.Negations.{not_le}
 use Rattle.knots.specs.Places.{every, rises_at, knot_at, place_from, place}
 use Rattle.knots.specs.Loops.{sound, AmongKnots}
-
--- ---- a test of each of n
-
-pub record Every (p : ℕ → Bool) (n k : ℕ) (all : Bool) : Type 0 where
-  pub low : k ≤ n
-  pub so : all ≡ every p k
 
 -- ---- the tests of all columns at once
 
@@ -79,30 +71,23 @@ module _ (l g r : List Float) where
       less : (k : ℕ) → suc k - 1 ≡ k
       less k = omega arith
 
-  pub record Sound (n k : ℕ) (all : Bool) (last : Float) : Type 0 where
-    pub low : k ≤ n
+  pub record Sound (k : ℕ) (all : Bool) (last : Float) : Type 0 where
     pub so : all ≡ sound l g r k
     pub past : last ≡ before l k
 
-  module _ {n : ℕ} where
-    pub sound_start : Sound n 0 true nan
-    sound_start = record { low = omega arith; so = refl; past = refl }
+  pub sound_start : Sound 0 true nan
+  sound_start = record { so = refl; past = refl }
 
-    pub sound_more : {k : ℕ} {all x y z : Bool} {last : Float} → Sound n k all last → k < n → x ≡ knot_at l k → y ≡ knot_at g k → z ≡ knot_at r k
-        → Sound n (k + 1) ((((all && not (le (at l k) last)) && x) && y) && z) (at l k)
-    sound_more {k} {all} {x} {y} {z} {last} i h d e f = record {
-      low = omega arith;
-      so = and (and (and (and i.so (ap (λ (v : Float). not (le (at l k) v)) i.past)) d) e) f ∙ turn k ∙ sym (ap (sound l g r) (add-one k));
-      past = sym (ap (before l) (add-one k));
-    }
-
-    pub sound_end : {k : ℕ} {all : Bool} {last : Float} → Sound n k all last → n ≤ k → all ≡ sound l g r n
-    sound_end i h = i.so ∙ ap (sound l g r) (le_antisymm i.low h)
+  pub sound_more : {k : ℕ} {all x y z : Bool} {last : Float} → Sound k all last → x ≡ knot_at l k → y ≡ knot_at g k → z ≡ knot_at r k
+      → Sound (k + 1) ((((all && not (le (at l k) last)) && x) && y) && z) (at l k)
+  sound_more {k} {all} {x} {y} {z} {last} i d e f = record {
+    so = and (and (and (and i.so (ap (λ (v : Float). not (le (at l k) v)) i.past)) d) e) f ∙ turn k ∙ sym (ap (sound l g r) (add-one k));
+    past = sym (ap (before l) (add-one k));
+  }
 
 -- ---- the place of w among the knots 0, .. , n, of which those up to k lie below it
 
 pub record Seeking (l : List Float) (w : Float) (n k : ℕ) : Type 0 where
-  pub low : k ≤ n
   pub left : place_from l w k (n - k) ≡ place_from l w 0 n
 
 module _ (l : List Float) (w : Float) where
@@ -116,14 +101,14 @@ module _ (l : List Float) (w : Float) where
       next n k h = omega arith
 
   pub seek_start : (n : ℕ) → Seeking l w n 0
-  seek_start n = record { low = omega arith; left = ap (λ (m : ℕ). place_from l w 0 m) (whole n) }
+  seek_start n = record { left = ap (λ (m : ℕ). place_from l w 0 m) (whole n) }
     where
       whole : (n : ℕ) → n - 0 ≡ n
       whole n = omega arith
 
   module _ {n k : ℕ} (i : Seeking l w n k) where
     pub seek_more : k < n → le w (at l (k + 1)) ≡ false → Seeking l w n (k + 1)
-    seek_more h t = record { low = omega arith; left = passed _ _ _ t ∙ sym (one_more n k h) ∙ i.left }
+    seek_more h t = record { left = passed _ _ _ t ∙ sym (one_more n k h) ∙ i.left }
 
     pub seek_found : k < n → le w (at l (k + 1)) ≡ true → Between k ((w ⊖ at l k) ⊘ (at l (k + 1) ⊖ at l k)) ≡ place_from l w 0 n
     seek_found h t = chosen _ _ _ t ∙ sym (one_more n k h) ∙ i.left
@@ -136,12 +121,12 @@ module _ (l : List Float) (w : Float) where
 
   -- ---- a place lies among the knots
 
-  place_from_in : (k n m : ℕ) → k + n < m → AmongKnots m (place_from l w k n)
+  pub place_from_in : (k n m : ℕ) → k + n < m → AmongKnots m (place_from l w k n)
   place_from_in k zero m h = omega arith
   place_from_in k (suc n) m h =
       cond_both (AmongKnots m) (le w (at l (k + 1))) _ _ (omega arith) (place_from_in (k + 1) n m (omega arith))
 
-pub place_in : (l : List Float) (n m : ℕ) (w : Width) → 0 < n → n ≤ m → AmongKnots m (place l n w)
+pub place_in : (l : List Float) (n m : ℕ) (w : Option Float) → 0 < n → n ≤ m → AmongKnots m (place l n w)
 unfolding place
-place_in l n m Unknown p h = omega arith
-place_in l n m (Known w) p h = cond_both (AmongKnots m) (finite w && not (le w (at l 0))) _ _ (place_from_in l w 0 (n - 1) m (omega arith)) (omega arith)
+place_in l n m None p h = omega arith
+place_in l n m (Some w) p h = cond_both (AmongKnots m) (finite w && not (le w (at l 0))) _ _ (place_from_in l w 0 (n - 1) m (omega arith)) (omega arith)

@@ -1,11 +1,9 @@
 -- Knots by increasing edge width: where a width lies among them, and what gains or residuals give there.
-use Rattle.std.specs.Prelude.{ℕ, zero, suc, ◌+◌, ◌-◌, Bool, true, cond, not, ◌&&◌, List, Float}
+use Rattle.std.specs.Prelude.{ℕ, zero, suc, ◌+◌, ◌-◌, Bool, true, cond, not, ◌&&◌, List, Float, Option, Some, None}
 use Rattle.std.specs.Float.Ieee.{lt, le}
 use Rattle.ieee.specs.Order.{finite}
 use Rattle.ranges.specs.Arith.{◌⊕◌, ◌⊖◌, ◌⊗◌, ◌⊘◌, at}
 use Rattle.ranges.specs.Ranges.{within}
-use Rattle.knots.specs.declared.Width.{Width}
-use Rattle.knots.specs.declared.Width.TheVariants.{Known, Unknown}
 use Rattle.knots.specs.declared.Place.{Place}
 use Rattle.knots.specs.declared.Place.TheVariants.{Knot, Between}
 
@@ -31,9 +29,9 @@ place_from l w k (suc n) =
     cond (le w (at l (k + 1))) (Between k ((w ⊖ at l k) ⊘ (at l (k + 1) ⊖ at l k))) (place_from l w (k + 1) n)
 
 -- no width, an infinite one or NaN, or one at or below the first knot is at the first
-unfoldable pub place : List Float → ℕ → Width → Place
-place l n Unknown = Knot 0
-place l n (Known w) = cond (finite w && not (le w (at l 0))) (place_from l w 0 (n - 1)) (Knot 0)
+unfoldable pub place : List Float → ℕ → Option Float → Place
+place l n None = Knot 0
+place l n (Some w) = cond (finite w && not (le w (at l 0))) (place_from l w 0 (n - 1)) (Knot 0)
 
 -- ---- what gains or residuals give there
 

@@ -1,104 +1,94 @@
-// Up to sixteen knots as arrays of widths, gains and residuals, and where an edge width lies among them.
+// Knots as columns of widths, gains and residuals, and where an edge width lies among them.
 #![tactic(auto)]
 
-ghost use Rattle.std.specs.Prelude.{◌≡◌, ◌<◌, ◌≤◌};
+ghost use Rattle.std.specs.Prelude.{◌≡◌, ◌-◌, ◌<◌, length};
 ghost use Rattle.knots.specs.Places.{every, rises_at, place_from, place, blend, value_at};
 ghost use Rattle.knots.specs.Loops.{sound, AmongKnots};
 
-// The width of an edge, px.
-#[derive(Clone, Copy)]
-pub enum Width {
-    Known(f32),
-    Unknown,
-}
-
-// Where a width lies among the knots: at one, or a part of the way from one to the next.
-#[derive(Clone, Copy)]
+// Where a width lies among the knots: at one, or a part of the way from one to the next. Both cases hold figures, so that an
+// Option or a Result would be no plainer.
+#[derive(Clone, Copy, Debug, PartialEq)]
 pub enum Place {
     Knot(usize),
     Between(usize, f32),
 }
 
-// Whether each of the first n widths is below the next.
-pub fn rises(widths: &[f32; 16], n: usize) -> bool
-    requires { n < 16 }
-    ensures { result ≡ every (rises_at widths.now) n }
+// Whether each width is below the next.
+pub fn rises(widths: &[f32]) -> bool
+    ensures { result ≡ every (rises_at widths.now) (length widths.now - 1) }
 {
     let mut all = true;
-    let mut k = 0;
-    while k < n {
-        all = all & (widths[k] < widths[k + 1]);
-        k += 1;
+    for k in 0..widths.len().saturating_sub(1) {
+        all &= widths[k] < widths[k + 1];
     }
     all
 }
 
-// Whether each of the first n widths is above the one before it, and each of the first n knots' numbers is in the range of knots:
-// one loop without a jump. Before the first width stands a NaN, which no float is at or below; a NaN among the widths is out
-// of range.
-pub fn rises_in_range(
-    widths: &[f32; 16],
-    gains: &[f32; 16],
-    residuals: &[f32; 16],
-    n: usize,
-) -> bool
-    requires { n ≤ 16 }
-    ensures { result ≡ sound widths.now gains.now residuals.now n }
+// Whether each width is above the one before it, and each knot's numbers are in the range of knots: one loop without a jump.
+// Before the first width stands a NaN, which no float is at or below; a NaN among the widths is out of range.
+pub fn rises_in_range(widths: &[f32], gains: &[f32], residuals: &[f32]) -> bool
+    requires { (length gains.now ≡ length widths.now) × (length residuals.now ≡ length widths.now) }
+    ensures { result ≡ sound widths.now gains.now residuals.now (length widths.now) }
 {
     let mut all = true;
-    let mut last = 0.0 / 0.0;
-    let mut k = 0;
-    while k < n {
+    let mut last = f32::NAN;
+    for k in 0..widths.len() {
         let width = widths[k];
         all = all
             & !(width <= last)
-            & ranges::within_thousand(width)
-            & ranges::within_thousand(gains[k])
-            & ranges::within_thousand(residuals[k]);
+            & ranges::within::<1000>(width)
+            & ranges::within::<1000>(gains[k])
+            & ranges::within::<1000>(residuals[k]);
         last = width;
-        k += 1;
     }
     all
 }
 
-// The place of w, which is above the first knot, among the first knot and the n after it.
-fn between_knots(widths: &[f32; 16], w: f32, n: usize) -> Place
-    requires { n < 16 }
-    ensures { result ≡ place_from widths.now w 0 n }
-{
-    let mut k = 0;
-    while k < n {
-        let lower = widths[k];
-        let upper = widths[k + 1];
-        if w <= upper {
-            return Place::Between(k, (w - lower) / (upper - lower));
-        }
-        k += 1;
-    }
-    Place::Knot(k)
+// Lent knots, one or more.
+#[derive(Clone, Copy)]
+pub struct Table<'a> {
+    pub widths: &'a [f32],
+    pub gains: &'a [f32],
+    pub residuals: &'a [f32],
+    ghost some: { 0 < length widths.now },
+    ghost all_gains: { length gains.now ≡ length widths.now },
+    ghost all_residuals: { length residuals.now ≡ length widths.now },
 }
 
-#[tactic(auto, unfolding(crate::specs::Places::place))]
-pub fn place_of(widths: &[f32; 16], count: usize, width: Width) -> Place
-    requires { (0 < count) × (count ≤ 16) }
-    ensures { result ≡ place widths.now count width }
-{
-    match width {
-        Width::Unknown => Place::Knot(0),
-        Width::Known(w) => {
-            if float::is_finite32(w) & !(w <= widths[0]) {
-                between_knots(widths, w, count - 1)
-            } else {
-                Place::Knot(0)
+impl Table<'_> {
+    // The place of an edge width, px.
+    #[tactic(auto, unfolding(crate::specs::Places::place), using(crate::proofs::Tables::place_from_in))]
+    pub fn place(self, width: Option<f32>) -> Place
+        ensures place { result ≡ place self.entry.widths.now (length self.entry.widths.now) width }
+        ensures among { AmongKnots (length self.entry.widths.now) result }
+    {
+        match width {
+            Some(w) if float::is_finite32(w) & !(w <= self.widths[0]) => self.between(w),
+            _ => Place::Knot(0),
+        }
+    }
+
+    // The place of w, which is above the first knot.
+    #[tactic(auto, using(crate::proofs::Tables::seek_more))]
+    fn between(self, w: f32) -> Place
+        ensures { result ≡ place_from self.entry.widths.now w 0 (length self.entry.widths.now - 1) }
+    {
+        let last = self.widths.len() - 1;
+        for k in 0..last {
+            let lower = self.widths[k];
+            let upper = self.widths[k + 1];
+            if w <= upper {
+                return Place::Between(k, (w - lower) / (upper - lower));
             }
         }
+        Place::Knot(last)
     }
 }
 
 // A gain or residual at a place.
 #[tactic(auto, unfolding(crate::specs::Places::value_at))]
-pub fn interpolated(values: &[f32; 16], p: Place) -> f32
-    requires { AmongKnots 16 p }
+pub fn interpolated(values: &[f32], p: Place) -> f32
+    requires { AmongKnots (length values.now) p }
     ensures { result ≡ value_at values.now p }
 {
     match p {

@@ -1,10 +1,10 @@
 -- Tests joined; numbers that refuse, and when each of them comes. Assumes nothing.
-use mathlib.Core.Path.{◌≡◌, refl, sym, ap, ◌∙◌}
+use mathlib.Core.Path.{◌≡◌, refl, ap, ◌∙◌}
 use mathlib.Core.Bool.{Bool, true, false, cond, not, ◌&&◌, false≢true}
 use mathlib.Core.Logic.{◌↔◌}
 use Prim.Native.Nat.{ℕ, ◌≤◌, ◌<◌}
-use borrow.Author.Tests.{ne_eqb, not-true, not-false, lt-ltb, le-ltb, ltb-true, ltb-false}
-use lib.Dec.{eqb, ltb}
+use borrow.Author.Tests.{not-true, not-false, lt-ltb, le-ltb, ltb-true, ltb-false}
+use lib.Dec.{ltb}
 
 pub and : {a b p q : Bool} → a ≡ p → b ≡ q → a && b ≡ p && q
 and e f = cc
@@ -16,14 +16,6 @@ and_left false b h = h
 pub and_right : (a b : Bool) → a && b ≡ true → b ≡ true
 and_right true b h = h
 and_right false b h = absurd (false≢true h)
-
--- a number that refuses stands, and under 0 what follows is said
-module _ {A : Type 0} (refused : ℕ → A) (next : A) where
-  pub stands : (n : ℕ) → (n ≡ 0 → ⊥) → {m : ℕ} → n ≡ m → refused n ≡ cond (eqb m 0) next (refused m)
-  stands n h e = ap (λ (b : Bool). cond b next (refused n)) (sym (ne_eqb n 0 h)) ∙ ap (λ (m : ℕ). cond (eqb m 0) next (refused m)) e
-
-  pub follows : {m : ℕ} → 0 ≡ m → next ≡ cond (eqb m 0) next (refused m)
-  follows e = ap (λ (m : ℕ). cond (eqb m 0) next (refused m)) e
 
 -- ---- `cond a p r` is the number p of a cause a, or else r: which it is, and exactly when
 

@@ -1,5 +1,5 @@
--- The noise call on work memory that is always enough; the report of its answer, and the remark on it.
-use mathlib.Core.Path.{◌≡◌, refl, ap, subst, ◌∙◌}
+-- The noise call on work memory that is always enough.
+use mathlib.Core.Path.{◌≡◌, refl, ap, ◌∙◌}
 use mathlib.Core.Bool.{false}
 use mathlib.Core.List.{List}
 use Prim.Native.Nat.{ℕ, ◌+◌, ◌*◌, ◌≤◌}
@@ -13,10 +13,6 @@ use Rattle.noise.specs.Refusals.{short_of}
 use Rattle.noise.specs.Call.{noise_of}
 use Rattle.noise.proofs.Causes.{enough}
 use Rattle.lid_bytes.specs.Input.{most_pixels}
-use Rattle.lid_bytes.specs.Report.{report_of}
-use Rattle.lid_bytes.specs.Remark.{remark_of}
-use Rattle.text.specs.Placed.{Fronted}
-use Rattle.lid.specs.Answer.{lid_answer, output_of, said_of}
 
 -- M is at most the pixels
 few : (w h : ℕ) → w * h ≤ most_pixels → needed_of w h ≤ most_pixels
@@ -26,10 +22,3 @@ pub by_noise : (pixels : List ℕ) (w h ints floats : ℕ) {r : Answer} → r �
     → w * h ≤ most_pixels → 3 * most_pixels ≤ ints → 2 * most_pixels + 2 ≤ floats → r ≡ noise_of pixels w h false
 by_noise pixels w h ints floats e b i f =
     e ∙ ap (noise_of pixels w h) (enough w h ints floats (needed_of w h) refl (omega (arith, few w h b)) (omega (arith, few w h b)))
-
-module _ (input : List ℕ) (a : Answer) (out out' : List ℕ) (r : ℕ) (e : a ≡ lid_answer input) where
-  pub answered : Fronted out (report_of a) r out' → Fronted out (output_of input) r out'
-  answered p = subst (λ (x : Answer). Fronted out (report_of x) r out') e p
-
-  pub remarked : Fronted out (remark_of input a.number) r out' → Fronted out (said_of input) r out'
-  remarked p = subst (λ (x : Answer). Fronted out (remark_of input x.number) r out') e p

@@ -10,9 +10,12 @@ use lib.Seq.{slice, take_all, take-take}
 use borrow.Author.Tests.{ltb-false, ltb-true}
 use Rattle.little_endian.specs.Bytes.{value_of}
 use Rattle.noise.specs.Call.{refused}
-use Rattle.lid_bytes.specs.declared.Input.TheVariants.{Refused}
-use Rattle.lid_bytes.specs.Input.{most_pixels, input_bytes, pixels_of, parsed_of}
-use Rattle.lid.specs.Answer.{answer_parsed, lid_answer, said_of}
+use Rattle.std.specs.Prelude.{Err}
+use Rattle.numbers.specs.declared.Number.{Number}
+use Rattle.numbers.specs.declared.Number.TheVariants.{NotALid, ManyPixels}
+use Rattle.numbers.specs.Numbers.{number_of}
+use Rattle.lid_bytes.specs.Input.{most_pixels, input_bytes, parsed_of}
+use Rattle.lid.specs.Answer.{answer_found, lid_answer, said_of}
 use Rattle.answer.specs.declared.Answer.{Answer}
 use Rattle.lid_bytes.specs.Remark.{remark_of}
 use Rattle.lid_bytes.proofs.Inputs.{too_many, unlike}
@@ -21,9 +24,9 @@ use Rattle.lid_bytes.proofs.Remarks.{by_front as remark_by_front}
 same_slice : (f t n : ℕ) (l : List ℕ) → t ≤ n → slice f t l ≡ slice f t (take n l)
 same_slice f t n l h = ap (λ (m : List ℕ). drop f m) (sym (take-take t n l h))
 
-as_number : (input : List ℕ) (k : ℕ) → Refused k ≡ parsed_of input → lid_answer input ≡ refused k
+as_number : (input : List ℕ) (why : Number) → Err why ≡ parsed_of input → lid_answer input ≡ refused (number_of why)
 unfolding lid_answer
-as_number input k e = ap (answer_parsed (pixels_of input)) (sym e)
+as_number input why e = ap (answer_found input) (sym e)
 
 -- an input that goes on past n bytes is refused, by the same number as its first n
 module _ (n : ℕ) (all : 4 + most_pixels < n) (input : List ℕ) (long : n < length input) where
@@ -44,11 +47,11 @@ module _ (n : ℕ) (all : 4 + most_pixels < n) (input : List ℕ) (long : n < le
 
   refused_both : (b : Bool) → ltb most_pixels (w * h) ≡ b → lid_answer front ≡ lid_answer input
   refused_both true e =
-      as_number front 16 (too_many front w h (ap value_of (same_slice 0 2 n input (omega arith))) (ap value_of (same_slice 2 4 n input (omega arith))) (omega (arith, front_long)) (ltb-true most_pixels (w * h) e))
-      ∙ sym (as_number input 16 (too_many input w h refl refl (omega arith) (ltb-true most_pixels (w * h) e)))
+      as_number front ManyPixels (too_many front w h (ap value_of (same_slice 0 2 n input (omega arith))) (ap value_of (same_slice 2 4 n input (omega arith))) (omega (arith, front_long)) (ltb-true most_pixels (w * h) e))
+      ∙ sym (as_number input ManyPixels (too_many input w h refl refl (omega arith) (ltb-true most_pixels (w * h) e)))
   refused_both false e =
-      as_number front 15 (unlike front w h (ap value_of (same_slice 0 2 n input (omega arith))) (ap value_of (same_slice 2 4 n input (omega arith))) (omega (arith, front_long)) few (λ q. omega (arith, few, front_long)))
-      ∙ sym (as_number input 15 (unlike input w h refl refl (omega arith) few (λ q. omega (arith, few))))
+      as_number front NotALid (unlike front w h (ap value_of (same_slice 0 2 n input (omega arith))) (ap value_of (same_slice 2 4 n input (omega arith))) (omega (arith, front_long)) few (λ q. omega (arith, few, front_long)))
+      ∙ sym (as_number input NotALid (unlike input w h refl refl (omega arith) few (λ q. omega (arith, few))))
     where
       few : w * h ≤ most_pixels
       few = ltb-false most_pixels (w * h) e

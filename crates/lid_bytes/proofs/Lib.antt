@@ -1,3 +1,2 @@
 pub mod Inputs
-pub mod Reports
 pub mod Remarks

@@ -1,5 +1,5 @@
 -- Inputs at the ends of what is taken, in the order of their causes; a report whose ten fields differ; remarks.
-use Rattle.std.specs.Prelude.{◌≡◌, refl, true, false, [], ◌∷◌, replicate}
+use Rattle.std.specs.Prelude.{◌≡◌, refl, Err, true, false, [], ◌∷◌, replicate}
 use Rattle.std.specs.Float.Ieee.{of_int, to_bits}
 use Rattle.ieee.specs.Numbers.{f32_of, plus_zero}
 use Rattle.little_endian.specs.Bytes.{value_of}
@@ -7,25 +7,26 @@ use Rattle.text.specs.Text.{as_bytes}
 use Rattle.text.specs.Numerals.{places, decimal_of, digit_of}
 use Rattle.text.specs.Line.{field_of, line_of}
 use Rattle.answer.specs.declared.Answer.{Answer}
-use Rattle.lid_bytes.specs.declared.Input.TheVariants.{Image, Refused}
+use Rattle.numbers.specs.declared.Number.TheVariants.{NotALid, ManyPixels}
+use Rattle.pgm.specs.Read.{image_at}
 use Rattle.lid_bytes.specs.Input.{width_of, height_of, parsed_of}
 use Rattle.lid_bytes.specs.Report.{report_bytes, report_of}
-use Rattle.reasons.specs.Reasons.{reason_of, numbered_of}
+use Rattle.reasons.specs.Reasons.{reason_at, reason_of, numbered_of}
 use Rattle.lid_bytes.specs.Remark.{begins_p5, pgm_of, remark_of, remark_bytes}
 
 -- width first, each low first
-pub sides : (parsed_of (3 ∷ 0 ∷ 2 ∷ 0 ∷ replicate 6 9) ≡ Image 3 2) × (parsed_of (0 ∷ 1 ∷ 1 ∷ 0 ∷ replicate 256 9) ≡ Image 256 1)
+pub sides : (parsed_of (3 ∷ 0 ∷ 2 ∷ 0 ∷ replicate 6 9) ≡ image_at 3 2 4) × (parsed_of (0 ∷ 1 ∷ 1 ∷ 0 ∷ replicate 256 9) ≡ image_at 256 1 4)
 unfolding parsed_of width_of height_of value_of
 sides = (refl, refl)
 
 -- under 4 bytes; a byte short or too many
-pub fifteen : (parsed_of (1 ∷ 0 ∷ 1 ∷ []) ≡ Refused 15) × (parsed_of (3 ∷ 0 ∷ 2 ∷ 0 ∷ replicate 5 9) ≡ Refused 15)
-    × (parsed_of (3 ∷ 0 ∷ 2 ∷ 0 ∷ replicate 7 9) ≡ Refused 15)
+pub fifteen : (parsed_of (1 ∷ 0 ∷ 1 ∷ []) ≡ Err NotALid) × (parsed_of (3 ∷ 0 ∷ 2 ∷ 0 ∷ replicate 5 9) ≡ Err NotALid)
+    × (parsed_of (3 ∷ 0 ∷ 2 ∷ 0 ∷ replicate 7 9) ≡ Err NotALid)
 unfolding parsed_of width_of height_of value_of
 fifteen = (refl, refl, refl)
 
 -- 17 by 241 is 4,097 pixels, whatever follows; 64 by 64 is 4,096, of which none stands here
-pub sixteen : (parsed_of (17 ∷ 0 ∷ 241 ∷ 0 ∷ []) ≡ Refused 16) × (parsed_of (64 ∷ 0 ∷ 64 ∷ 0 ∷ []) ≡ Refused 15)
+pub sixteen : (parsed_of (17 ∷ 0 ∷ 241 ∷ 0 ∷ []) ≡ Err ManyPixels) × (parsed_of (64 ∷ 0 ∷ 64 ∷ 0 ∷ []) ≡ Err NotALid)
 unfolding parsed_of width_of height_of value_of
 sixteen = (refl, refl)
 
@@ -66,12 +67,12 @@ beside_figure = (refl, refl)
 
 pub too_small : remark_of (3 ∷ 0 ∷ 9 ∷ 0 ∷ []) 3
     ≡ as_bytes "lidnoise: no figure, number 3: a side is below 4: a window needs 4 by 4 pixels\n"
-unfolding remark_of pgm_of begins_p5 numbered_of reason_of decimal_of places
+unfolding remark_of pgm_of begins_p5 numbered_of reason_of reason_at decimal_of places
 too_small = refl
 
 pub of_pgm : remark_of (as_bytes "P5\n64 64\n255\n") 16
     ≡ as_bytes "lidnoise: the input begins with P5, as a binary PGM file does: pgmnoise reads those\nlidnoise: no figure, number 16: there are over 4,096 pixels\n"
-unfolding remark_of pgm_of begins_p5 numbered_of reason_of decimal_of places
+unfolding remark_of pgm_of begins_p5 numbered_of reason_of reason_at decimal_of places
 of_pgm = refl
 
 pub remark_room : remark_bytes ≡ 235

@@ -2,26 +2,14 @@
 // figure, and what could not be read or written.
 #![tactic(auto)]
 
-use std::io::Print;
-
 fn main(rt: HostRuntime) {
-    if streams::has_words(&rt) {
-        let _ = eprintln!(rt;
-            "lidnoise: it takes no words and reads a lid from standard input: lidnoise <FILE"
-        );
-    }
-    let mut input = lid_bytes::input_room();
-    let filled = streams::read_full(&mut rt.stdin(), &mut input);
-    if let Some(why) = filled.failed {
-        streams::complain(&rt, "lidnoise: standard input", why);
-    }
-    let mut out = lid_bytes::report_room();
-    let mut remark = lid_bytes::remark_room();
-    let lengths = lid::lidnoise(&input[..filled.count], &mut out, &mut remark);
-    let written = lengths.output;
-    let said = lengths.remark;
-    if let Err(why) = rt.write_all(&out[..written]) {
-        streams::complain(&rt, "lidnoise: standard output", why);
-    }
-    let _ = rt.stderr().write_all(&remark[..said]);
+    let mut room = lid_bytes::input_room();
+    let input = streams::read_input(
+        &rt,
+        "lidnoise",
+        "a lid from standard input: lidnoise <FILE",
+        &mut room,
+    );
+    let said = lid::lidnoise(input);
+    streams::write_all(&rt, "lidnoise", said.output.as_str(), said.remark.as_str());
 }

@@ -2,7 +2,10 @@
 #![tactic(auto)]
 
 ghost use Rattle.std.specs.Prelude.{◌≡◌};
+ghost use Rattle.numbers.specs.Numbers.{number_in};
 ghost use Rattle.limits.specs.Limits.{too_large, too_small, image_number, far_place, far as is_far};
+
+use numbers::Number;
 
 // Whether a side is above 16,384.
 pub fn too_large(w: usize, h: usize) -> bool
@@ -24,17 +27,17 @@ pub fn too_small(w: usize, h: usize) -> bool
     h < 4
 }
 
-// 1 or 2 where document 01 refuses an image of w by h with so many pixels, else 0.
-pub fn judge(pixels: usize, w: usize, h: usize) -> u32
-    ensures { result ≡ image_number pixels w h }
+// Why document 01 refuses an image of w by h with so many pixels, where it does.
+pub fn judge(pixels: usize, w: usize, h: usize) -> Result<(), Number>
+    ensures { number_in result ≡ image_number pixels w h }
 {
     if too_large(w, h) {
-        return 1;
+        return Err(Number::SideAbove);
     }
     if pixels != w * h {
-        return 2;
+        return Err(Number::OtherLength);
     }
-    0
+    Ok(())
 }
 
 // Whether v is beyond ±1,000,000.

@@ -1,12 +1,12 @@
 -- The loops of `put`, which divides the number down, and of `get`, which builds it up from the highest byte.
-use mathlib.Core.Path.{◌≡◌, refl, sym, ap, ◌∙◌, subst}
+use mathlib.Core.Path.{◌≡◌, sym, ap, ◌∙◌, subst}
 use Prim.Native.Nat.{ℕ, suc, ◌+◌, ◌-◌, ◌*◌, ◌/◌, ◌%◌, ◌^◌, ◌≤◌, ◌<◌}
 use mathlib.Core.List.{List, [], ◌∷◌, ◌++◌}
 use native.Mathlib.Omega.{arith}
 use native.Mathlib.Nat.{pow-succ', pow-le-pow_right}
 use lib.ListN.{length, get_or, take, drop, set}
 use lib.Seq.{slice, slice_empty, slice-cons}
-use Rattle.laws.proofs.Fill.{Writing, start, put, end}
+use Rattle.laws.proofs.Fill.{Writing, put, end}
 use Rattle.laws.specs.Lists.{laid}
 use Rattle.little_endian.specs.Bytes.{bytes_of, value_of}
 use Rattle.little_endian.proofs.Laws.{length_bytes}
@@ -26,21 +26,6 @@ unfolding bytes_of
 one_to_come n m rest e = ap (λ (i : ℕ). bytes_of i rest) e
 
 module _ {out₀ : List ℕ} {at count x : ℕ} where
-  pub put_start : Putting out₀ at count x 0 x out₀
-  put_start =
-      record {
-        low = omega arith;
-        long = refl;
-        writing = subst (λ (i : ℕ). Writing (take at out₀ ++ bytes_of count x) out₀ i out₀ (bytes_of (count - 0) x)) (nothing at)
-            (subst (λ (i : ℕ). Writing (take at out₀ ++ bytes_of count x) out₀ at out₀ (bytes_of i x)) (whole count) (start out₀ at (bytes_of count x)));
-      }
-    where
-      nothing : (a : ℕ) → a ≡ a + 0
-      nothing a = omega arith
-
-      whole : (a : ℕ) → a ≡ a - 0
-      whole a = omega arith
-
   pub put_turn : {k rest : ℕ} {out : List ℕ} → at + count ≤ length out₀ → k < count → Putting out₀ at count x k rest out
       → Putting out₀ at count x (k + 1) (rest / 256) (set out (at + k) (rest % 256))
   put_turn {k} {rest} {out} room h p =
@@ -117,15 +102,3 @@ module _ {bytes : List ℕ} {at count : ℕ} where
   -- a turn's number fits 64 bits where there are at most 8 bytes
   pub get_fits : {x k : ℕ} → count ≤ 8 → 0 < k → Getting bytes at count x k → x < 256 ^ 7
   get_fits {x} {k} h p g = omega (arith, g.small, pow-le-pow_right {n = 256} (omega arith) {i = count - k} {j = 7} (omega arith))
-
-  pub get_end : {x k : ℕ} → k ≤ 0 → Getting bytes at count x k → x ≡ value_of (slice at (at + count) bytes)
-  get_end {x} {k} h g = g.is ∙ ap (λ (i : ℕ). value_of (slice i (at + count) bytes)) (none at k h)
-    where
-      none : (a k : ℕ) → k ≤ 0 → a + k ≡ a
-      none a k h = omega arith
-
-  pub get_small : {x k : ℕ} → k ≤ 0 → Getting bytes at count x k → x < 256 ^ count
-  get_small {x} {k} h g = subst (λ (n : ℕ). x < 256 ^ n) (all count k h) g.small
-    where
-      all : (n k : ℕ) → k ≤ 0 → n - k ≡ n
-      all n k h = omega arith

@@ -1,8 +1,7 @@
 -- Nothing is lost between the noise call and the log: what a writer makes of an answer with 0, 5, 6 or 7.
-use Rattle.std.specs.Prelude.{◌≡◌, ◌↔◌, List, ◌++◌, ℕ, ◌^◌, ◌≤◌, ◌<◌, length, drop}
+use Rattle.std.specs.Prelude.{◌≡◌, ◌↔◌, List, ◌++◌, ℕ, ◌^◌, ◌≤◌, ◌<◌, length, drop, Ok}
 use Rattle.answer.specs.declared.Answer.{Answer}
 use Rattle.answer.specs.Fields.{answer_bytes}
-use Rattle.record.specs.declared.Reading.TheVariants.{Given}
 use Rattle.record.specs.Rule.{Allowed}
 use Rattle.record.specs.Records.{form_nf, size_of, bytes_as, written_as, read_as}
 use Rattle.logging.specs.Logging.{record_of_answer, record_from}
@@ -23,4 +22,4 @@ pub record Recorded (shot w h : ℕ) (a : Answer) : Type 0 where
   -- which reads back as the answer's record, a shot being a number of 32 bits
   pub reads : (rest out : List ℕ) → shot < 2 ^ 32 → size_of form_nf ≤ length out
       → read_as form_nf (written_as form_nf (record_from shot w h (answer_bytes a ++ rest)) out).bytes
-      ≡ Given (record_of_answer shot w h a)
+      ≡ Ok (record_of_answer shot w h a)

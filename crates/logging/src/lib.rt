@@ -11,7 +11,7 @@ fn field(answer: &[u8], k: usize) -> u32
     requires { (k < 10) × (40 ≤ length answer.now) }
     ensures { result ≡ field_at answer.now k }
 {
-    little_endian::get(answer, 4 * k, 4) as u32
+    little_endian::get32(answer, 4 * k, 4)
 }
 
 // The record of a shot from the sides and the bytes that the noise call left. Milli, rounds and passes are not looked at.

@@ -13,7 +13,13 @@ use Rattle.laws.proofs.Fill.{from_get}
 use Rattle.measure.proofs.Rows.{from_same}
 use Rattle.window.specs.declared.WindowStats.{WindowStats}
 use Rattle.measure.specs.Columns.{column_count, field, columns, columns_in, figure_in, figures_in}
-use Rattle.measure.specs.Loops.{column, Stored}
+use Rattle.measure.specs.Loops.{column}
+
+-- f stands at place i of each column
+pub record Stored (t i : ℕ) (f : WindowStats) (old new : List ℤ) : Type 0 where
+  pub each : (c : ℕ) → c < column_count → column t c new ≡ set (column t c old) i (field c f)
+  pub beyond : drop (column_count * t) new ≡ drop (column_count * t) old
+  pub long : length new ≡ length old
 
 -- ---- a store at place i of column d
 

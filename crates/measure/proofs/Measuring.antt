@@ -1,22 +1,23 @@
 -- The windows of a pass measured row by row: each column holds the rows measured so far. Assumes nothing.
 use mathlib.Core.Path.{◌≡◌, refl, sym, ap, ◌∙◌, subst}
-use mathlib.Core.List.{List, [], ◌++◌, map, append-nil}
+use mathlib.Core.List.{List, [], ◌++◌, map, map-map, append-nil}
 use Prim.Native.Nat.{ℕ, ◌+◌, ◌-◌, ◌*◌, ◌≤◌, ◌<◌}
 use native.Mathlib.Omega.{arith}
 use lib.ListN.{length, drop, drop_of_length-le, length-map}
 use lib.IntN.{ℤ}
 use Rattle.laws.specs.Lists.{from, joined}
 use Rattle.laws.proofs.Fill.{Rows, rows_start, rows_put, rows_end, length_from, joined_none}
+use Rattle.window.specs.Window.{stats_of, pixels_at}
 use Rattle.grid.specs.Step.{step_of}
 use Rattle.grid.specs.Grid.{Place, Sides, first_x, row_count, row_of, rows_of, places_of, total_of}
 use Rattle.grid.proofs.Steps.{step_is, step_most}
 use Rattle.grid.proofs.Counts.{count_most}
 use Rattle.grid.proofs.Places.{total_more, total_by_lem, inside_at, inside_pixels}
 use Rattle.measure.specs.Figures.{figure_at, figures_of}
-use Rattle.measure.specs.Loops.{figure_of, column, Filled, RowFits}
+use Rattle.measure.specs.Loops.{figure_of, column, Filled}
 use Rattle.measure.specs.Columns.{column_count, field, columns, columns_in}
 use Rattle.measure.proofs.Columns.{column_long, whole}
-use Rattle.measure.proofs.Rows.{joined_same, map_rows, map_map}
+use Rattle.measure.proofs.Rows.{from_same, joined_same, map_rows}
 
 -- the numbers that describe a pass
 pub record Pass (w h windows t s m : ℕ) : Type 0 where
@@ -42,7 +43,7 @@ places_by w h windows s m e f = ap (λ (n : ℕ). joined (row_of w s) 0 n) f ∙
 
 -- row j of column c
 abbrev row_in : List ℕ → ℕ → ℕ → ℕ → ℕ → List ℤ
-row_in img w s c j = from (λ k. field c (figure_of img w (j * s) (first_x j s) s k)) 0 (row_count w s j)
+row_in img w s c j = from (λ k. field c (figure_of img w (j * s * w + first_x j s) s k)) 0 (row_count w s j)
 
 pub record Measuring (img : List ℕ) (w s m t : ℕ) (l₀ : List ℤ) (l : List ℤ) (to j : ℕ) : Type 0 where
   pub low : j ≤ m
@@ -68,31 +69,28 @@ module _ {img : List ℕ} {w s m t : ℕ} {l₀ l : List ℤ} {to j : ℕ} (i : 
   pub room : j < m → to + row_count w s j ≤ t
   room g = omega (arith, i.left, total_more w s m j g)
 
-  pub fits : {h windows n x : ℕ} → Pass w h windows t s m → length img ≡ w * h → column_count * t ≤ length l₀ → j < m
-      → x ≡ first_x j s → n ≡ row_count w s j → RowFits img w (j * s) x s n t to l
-  fits {h} {windows} {n} {x} p e f g a b =
-      record {
-        inside = λ k q. within k (inside_pixels w h (first_x j s + k * s) (j * s)
-            (inside_at w h s j k (step_some p) (subst (λ (u : ℕ). j < u) p.rows g) (subst (λ (u : ℕ). k < u) b q)));
-        room = omega (arith, room g);
-        columns = omega (arith, i.long);
-      }
-    where
-      within : (k : ℕ) → j * s * w + (first_x j s + k * s) + 3 * w + 4 ≤ w * h → j * s * w + (x + k * s) + 3 * w + 4 ≤ length img
-      within k q = subst (λ (u : ℕ). j * s * w + (u + k * s) + 3 * w + 4 ≤ length img) (sym a) (subst (λ (u : ℕ). j * s * w + (first_x j s + k * s) + 3 * w + 4 ≤ u) (sym e) q)
+  -- a row's windows lie in the image
+  pub fits : {h windows : ℕ} → Pass w h windows t s m → length img ≡ w * h → j < m
+      → (k : ℕ) → k < row_count w s j → j * s * w + first_x j s + k * s + 3 * w + 4 ≤ length img
+  fits {h} {windows} p e g k q =
+      omega (
+        arith,
+        e,
+        inside_pixels w h (first_x j s + k * s) (j * s) (inside_at w h s j k (step_some p) (subst (λ (u : ℕ). j < u) p.rows g) q),
+      )
 
-  pub turn : {n x : ℕ} {l' : List ℤ} → column_count * t ≤ length l₀ → j < m → x ≡ first_x j s → n ≡ row_count w s j
-      → Filled t to n (figure_of img w (j * s) x s) l l' → Measuring img w s m t l₀ l' (to + n) (j + 1)
-  turn {n} {x} {l'} f g a b e =
+  pub turn : {n at : ℕ} {l' : List ℤ} → column_count * t ≤ length l₀ → j < m → at ≡ j * s * w + first_x j s → n ≡ row_count w s j
+      → Filled t to n (figure_of img w at s) l l' → Measuring img w s m t l₀ l' (to + n) (j + 1)
+  turn {n} {at} {l'} f g a b e =
       subst (λ (u : ℕ). Measuring img w s m t l₀ l' (to + u) (j + 1)) (sym b)
-      (go (subst (λ (u : ℕ). Filled t to u (figure_of img w (j * s) (first_x j s) s) l l') b (subst (λ (u : ℕ). Filled t to n (figure_of img w (j * s) u s) l l') a e)))
+      (go (subst (λ (u : ℕ). Filled t to u (figure_of img w (j * s * w + first_x j s) s) l l') b (subst (λ (u : ℕ). Filled t to n (figure_of img w u s) l l') a e)))
     where
-      go : Filled t to (row_count w s j) (figure_of img w (j * s) (first_x j s) s) l l' → Measuring img w s m t l₀ l' (to + row_count w s j) (j + 1)
+      go : Filled t to (row_count w s j) (figure_of img w (j * s * w + first_x j s) s) l l' → Measuring img w s m t l₀ l' (to + row_count w s j) (j + 1)
       go e =
           record {
             low = omega arith;
             left = omega (arith, i.left, total_more w s m j g);
-            each = λ c h. rows_put (i.each c h) g (length_from (λ k. field c (figure_of img w (j * s) (first_x j s) s k)) 0 (row_count w s j)) (omega (arith, room g, column_long t c l₀ h f)) (e.each c h);
+            each = λ c h. rows_put (i.each c h) g (length_from (λ k. field c (figure_of img w (j * s * w + first_x j s) s k)) 0 (row_count w s j)) (omega (arith, room g, column_long t c l₀ h f)) (e.each c h);
             beyond = e.beyond ∙ i.beyond;
             long = e.long ∙ i.long;
           }
@@ -116,11 +114,22 @@ module _ {img : List ℕ} {w s m t : ℕ} {l₀ l : List ℤ} {to j : ℕ} (i : 
       none : (c : ℕ) → c < column_count → drop to (column t c l₀) ≡ []
       none c q = drop_of_length-le (column t c l₀) {i = to} (omega (arith, full g, column_long t c l₀ q f))
 
+      -- a row by the places of its windows
+      placed : (c j : ℕ) → row_in img w s c j ≡ from (λ k. field c (figure_at img w (record { x = first_x j s + k * s; y = j * s }))) 0 (row_count w s j)
+      placed c j =
+          from_same (λ k. field c (figure_of img w (j * s * w + first_x j s) s k))
+          (λ k. field c (figure_at img w (record { x = first_x j s + k * s; y = j * s }))) 0 (row_count w s j)
+          (λ k a b. ap (λ (u : ℕ). field c (stats_of (pixels_at img w u))) (over (j * s * w) (first_x j s) (k * s)))
+        where
+          over : (a b c : ℕ) → a + b + c ≡ a + (b + c)
+          over a b c = omega arith
+
       col : (c : ℕ) → c < column_count → column t c l ≡ map (field c) (figures_of img w h windows)
       col c q =
           rows_end (i.each c q) g
           ∙ ap (λ (k : List ℤ). joined (row_in img w s c) 0 m ++ k) (none c q)
           ∙ append-nil (joined (row_in img w s c) 0 m)
+          ∙ joined_same (row_in img w s c) (λ j. from (λ k. field c (figure_at img w (record { x = first_x j s + k * s; y = j * s }))) 0 (row_count w s j)) 0 m (λ j a b. placed c j)
           ∙ map_rows (λ (q : Place). field c (figure_at img w q)) (λ j k. record { x = first_x j s + k * s; y = j * s }) (row_count w s) 0 m
           ∙ ap (map (λ (q : Place). field c (figure_at img w q))) places
-          ∙ map_map (field c) (figure_at img w) (places_of w h windows)
+          ∙ sym (map-map (field c) (figure_at img w) (places_of w h windows))

@@ -1,6 +1,7 @@
 -- Lists of rows: element by element, and as one list of places mapped. Assumes nothing.
+use Rattle.std.proofs.lemmas.List.{map-append}
 use mathlib.Core.Path.{◌≡◌, refl, sym, ap, ◌∙◌}
-use mathlib.Core.List.{List, [], ◌∷◌, ◌++◌, map}
+use mathlib.Core.List.{List, ◌∷◌, ◌++◌, map}
 use Prim.Native.Nat.{ℕ, zero, suc, ◌+◌, ◌≤◌, ◌<◌}
 use native.Mathlib.Omega.{arith}
 use Rattle.laws.specs.Lists.{from, joined}
@@ -49,10 +50,6 @@ module _ {A : Type 0} where
       ∙ ap (λ (l : List A). g k ++ l) (joined_same f g (suc k) n (λ i p q. e i (omega arith) (omega arith)))
 
 module _ {A B : Type 0} (g : A → B) where
-  pub map_append : (l m : List A) → map g (l ++ m) ≡ map g l ++ map g m
-  map_append [] m = refl
-  map_append (a ∷ l) m = ap (λ (n : List B). g a ∷ n) (map_append l m)
-
   map_from : (f : ℕ → A) (k n : ℕ) → from (λ i. g (f i)) k n ≡ map g (from f k n)
   map_from f k zero = refl
   map_from f k (suc n) = ap (λ (l : List B). g (f k) ∷ l) (map_from f (suc k) n)
@@ -64,8 +61,4 @@ module _ {A B : Type 0} (g : A → B) where
   map_rows f n k (suc m) =
       ap (λ (l : List B). l ++ joined (λ j. from (λ i. g (f j i)) 0 (n j)) (suc k) m) (map_from (f k) 0 (n k))
       ∙ ap (λ (l : List B). map g (from (f k) 0 (n k)) ++ l) (map_rows f n (suc k) m)
-      ∙ sym (map_append (from (f k) 0 (n k)) (joined (λ j. from (f j) 0 (n j)) (suc k) m))
-
-pub map_map : {A B C : Type 0} (g : B → C) (f : A → B) (l : List A) → map (λ x. g (f x)) l ≡ map g (map f l)
-map_map g f [] = refl
-map_map {C = C} g f (a ∷ l) = ap (λ (m : List C). g (f a) ∷ m) (map_map g f l)
+      ∙ sym (map-append g (from (f k) 0 (n k)) (joined (λ j. from (f j) 0 (n j)) (suc k) m))

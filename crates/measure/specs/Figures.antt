@@ -2,7 +2,7 @@
 use Rattle.std.specs.Prelude.{◌≡◌, List, map, ℕ, ◌+◌, ◌*◌, ◌≤◌, length, ℤ}
 use Rattle.window.specs.Window.{stats_of, pixels_at}
 use Rattle.window.specs.declared.WindowStats.{WindowStats}
-use Rattle.grid.specs.Grid.{Place, Sides, places_of, total_of}
+use Rattle.grid.specs.Grid.{Place, places_of, total_of}
 use Rattle.measure.specs.Columns.{column_count}
 
 -- of the window at a place
@@ -12,9 +12,7 @@ figure_at img w p = stats_of (pixels_at img w (p.y * w + p.x))
 abbrev pub figures_of : List ℕ → ℕ → ℕ → ℕ → List WindowStats
 figures_of img w h windows = map (figure_at img w) (places_of w h windows)
 
--- an image that a pass takes, with room for its figures
+-- an image of a pass's sides, with room for the figures
 pub record Measurable (img : List ℕ) (w h windows : ℕ) (ints : List ℤ) : Type 0 where
-  pub sides : Sides w h
-  pub some : 1 ≤ windows
   pub pixels : length img ≡ w * h
   pub columns : column_count * total_of w h windows ≤ length ints

@@ -1,34 +1,21 @@
 -- Only for the loops that fill the columns: what each asks of the slices and what it leaves in them. They come to `columns_in`.
-use Rattle.std.specs.Prelude.{◌≡◌, List, ◌++◌, ℕ, ◌+◌, ◌*◌, ◌≤◌, ◌<◌, length, get_or, take, drop, set, ℤ}
+use Rattle.std.specs.Prelude.{◌≡◌, List, ◌++◌, ℕ, ◌+◌, ◌*◌, ◌<◌, length, get_or, take, drop, ℤ}
 use Rattle.laws.specs.Lists.{from}
-use Rattle.window.specs.Window.{of_rows, stats_of}
+use Rattle.window.specs.Window.{of_rows, pixels_at, stats_of}
 use Rattle.window.specs.declared.WindowStats.{WindowStats}
 use Rattle.window_stats.specs.Words.{word_at, rows_in}
 use Rattle.measure.specs.Columns.{column_count, field}
-use Rattle.measure.specs.Figures.{figure_at}
 
 -- ---- one row of the grid
 
--- the figures of window k of the grid row at y, s apart from x on
-abbrev pub figure_of : List ℕ → ℕ → ℕ → ℕ → ℕ → ℕ → WindowStats
-figure_of img w y x s k = figure_at img w (record { x = x + k * s; y = y })
-
--- the windows of a grid row lie inside the image, and there is room for their figures
-pub record RowFits (img : List ℕ) (w y x s n t to : ℕ) (ints : List ℤ) : Type 0 where
-  pub inside : (k : ℕ) → k < n → y * w + (x + k * s) + 3 * w + 4 ≤ length img
-  pub room : to + n ≤ t
-  pub columns : column_count * t ≤ length ints
+-- the figures of window k of those that begin at place `at` of the image, s apart
+abbrev pub figure_of : List ℕ → ℕ → ℕ → ℕ → ℕ → WindowStats
+figure_of img w at s k = stats_of (pixels_at img w (at + k * s))
 
 -- ---- the columns of a slice, each t long
 
 abbrev pub column : ℕ → ℕ → List ℤ → List ℤ
 column t c l = take t (drop (c * t) l)
-
--- f stands at place i of each column
-pub record Stored (t i : ℕ) (f : WindowStats) (old new : List ℤ) : Type 0 where
-  pub each : (c : ℕ) → c < column_count → column t c new ≡ set (column t c old) i (field c f)
-  pub beyond : drop (column_count * t) new ≡ drop (column_count * t) old
-  pub long : length new ≡ length old
 
 -- f 0, f 1, .. , n of them, stand from place `to` of each column on
 pub record Filled (t to n : ℕ) (f : ℕ → WindowStats) (old new : List ℤ) : Type 0 where
@@ -46,12 +33,3 @@ gathered img at s n old = from (λ k. word_at img (at + k * s)) 0 n ++ drop n ol
 -- the figures of window k, its rows being number k of each list
 abbrev pub figure_of_words : List ℕ → List ℕ → List ℕ → List ℕ → ℕ → WindowStats
 figure_of_words a b c d k = stats_of (of_rows (rows_in (get_or a k 0) (get_or b k 0) (get_or c k 0) (get_or d k 0)))
-
--- n windows stand in the lists, and there is room for their figures
-pub record WordsFit (a b c d : List ℕ) (n t to : ℕ) (ints : List ℤ) : Type 0 where
-  pub first : n ≤ length a
-  pub second : n ≤ length b
-  pub third : n ≤ length c
-  pub fourth : n ≤ length d
-  pub room : to + n ≤ t
-  pub columns : column_count * t ≤ length ints

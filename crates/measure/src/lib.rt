@@ -1,140 +1,108 @@
 // The windows of a pass measured into the lent i32 slice.
 #![tactic(auto)]
 
-ghost use Rattle.std.specs.Prelude.{◌≡◌, ℕ, ◌+◌, ◌*◌, ◌<◌, ◌≤◌, min, length};
+ghost use Rattle.std.specs.Prelude.{◌≡◌, ℕ, ◌+◌, ◌*◌, ◌<◌, ◌≤◌, length, slice_index_or};
 ghost use Rattle.grid.specs.Grid.{total_of};
 ghost use Rattle.measure.specs.Figures.{figures_of, Measurable};
 ghost use Rattle.measure.specs.Columns.{columns_in, column_count};
-ghost use Rattle.measure.specs.Loops.{figure_of, RowFits, Stored, Filled, gathered, figure_of_words, WordsFit};
+ghost use Rattle.measure.specs.Loops.{figure_of, Filled, gathered};
 
-use window::WindowStats;
+use grid::Grid;
 
-// A window's figures at place i of each column, the columns being t long.
-fn put(ints: &mut [i32], t: usize, i: usize, f: WindowStats)
-    requires { (i < t) × (column_count * t ≤ length ints.old) }
-    ensures { Stored t i f ints.old ints.new }
-{
-    let sum = f.sum;
-    let gate = f.gate;
-    let op = f.op;
-    ints[i] = sum;
-    ints[t + i] = gate;
-    ints[2 * t + i] = op;
-}
+// How many windows are measured at a time.
+const MOST: usize = 32;
 
-// Four pixels as one number from img[at], img[at + s], .. on, n times, to the front of words.
-fn gather(img: &[u8], at: usize, s: usize, n: usize, words: &mut [u32])
-    requires { (n ≤ length words.old) × ((k : ℕ) → k < n → at + k * s + 4 ≤ length img.now) }
-    ensures { words.new ≡ gathered img.now at s n words.old }
-{
-    let mut k = 0;
-    while k < n {
-        words[k] = window_stats::word(img, at + k * s);
-        k += 1;
-    }
-}
-
-// The n windows whose rows stand in a, b, c and d, into the columns from place `to` on.
-fn measure_words(
-    a: &[u32],
-    b: &[u32],
-    c: &[u32],
-    d: &[u32],
-    n: usize,
-    ints: &mut [i32],
-    t: usize,
-    to: usize,
-)
-    requires { WordsFit a.now b.now c.now d.now n t to ints.old }
-    ensures { Filled t to n (figure_of_words a.now b.now c.now d.now)
-        ints.old ints.new }
-{
-    let mut k = 0;
-    while k < n {
-        let f = window_stats::packed(a[k], b[k], c[k], d[k]);
-        put(ints, t, to + k, f);
-        k += 1;
-    }
-}
-
-// At most 32 windows of a grid row: all their pixels are asked for before the first is measured, and they stand side by side, so
-// that several can be measured by one instruction.
-fn measure_some(
-    img: &[u8],
+// n windows of a grid row: the first begins at img[at], they are s apart, and the image's rows w.
+#[derive(Clone, Copy)]
+struct Row<'a> {
+    img: &'a [u8],
     w: usize,
-    y: usize,
-    x: usize,
+    at: usize,
     s: usize,
     n: usize,
-    ints: &mut [i32],
-    t: usize,
-    to: usize,
-)
-    requires { (1 ≤ n) × (n ≤ 32) × RowFits img.now w y x s n t to ints.old }
-    ensures { Filled t to n (figure_of img.now w y x s) ints.old ints.new }
-{
-    let at = y * w + x;
-    let mut a = [0u32; 32];
-    let mut b = [0u32; 32];
-    let mut c = [0u32; 32];
-    let mut d = [0u32; 32];
-    gather(img, at, s, n, &mut a);
-    gather(img, at + w, s, n, &mut b);
-    gather(img, at + 2 * w, s, n, &mut c);
-    gather(img, at + 3 * w, s, n, &mut d);
-    measure_words(&a, &b, &c, &d, n, ints, t, to);
+    ghost inside: { (k : ℕ) → k < n → at + k * s + 3 * w + 4 ≤ length img.now },
+    // A slice's own type says so, but not that of a struct that holds it.
+    ghost bytes: { (i : ℕ) → slice_index_or img.now i 0 < 256 },
 }
 
-// The n windows of the grid row at y, s apart from x on, into the columns from place `to` on.
-fn measure_row(
-    img: &[u8],
-    w: usize,
-    y: usize,
-    x: usize,
-    s: usize,
-    n: usize,
-    ints: &mut [i32],
-    t: usize,
-    to: usize,
-)
-    requires { RowFits img.now w y x s n t to ints.old }
-    ensures { Filled t to n (figure_of img.now w y x s) ints.old ints.new }
-{
-    let mut k = 0;
-    while k < n {
-        let m = some(n - k);
-        measure_some(img, w, y, x + k * s, s, m, ints, t, to + k);
-        k += m;
+impl Row<'_> {
+    // Of each window the four pixels in its row y, as one number, to the front of words.
+    fn gather(self, y: usize, words: &mut [u32; MOST])
+        requires { (y < 4) × (self.n ≤ MOST) }
+        ensures { words.new ≡ gathered self.entry.img.now (self.entry.at + y * self.entry.w) self.entry.s self.entry.n words.old }
+    {
+        for k in 0..self.n {
+            words[k] = window_stats::word(self.img, self.at + y * self.w + k * self.s);
+        }
     }
-}
 
-// How many of n windows are measured at a time.
-fn some(n: usize) -> usize
-    ensures { result ≡ min n 32 }
-{
-    if n < 32 {
-        return n;
+    // At most 32 windows, into the columns from place `to` on: all their pixels are asked for before the first is measured, and
+    // they stand side by side, so that several can be measured by one instruction.
+    fn measure_some(self, ints: &mut [i32], t: usize, to: usize)
+        requires { (self.n ≤ MOST) × (to + self.n ≤ t) × (column_count * t ≤ length ints.old) }
+        ensures { Filled t to self.entry.n (figure_of self.entry.img.now self.entry.w self.entry.at self.entry.s)
+            ints.old ints.new }
+    {
+        let mut a = [0; MOST];
+        let mut b = [0; MOST];
+        let mut c = [0; MOST];
+        let mut d = [0; MOST];
+        self.gather(0, &mut a);
+        self.gather(1, &mut b);
+        self.gather(2, &mut c);
+        self.gather(3, &mut d);
+        for k in 0..self.n {
+            let f = window_stats::packed(a[k], b[k], c[k], d[k]);
+            let i = to + k;
+            ints[i] = f.sum;
+            ints[t + i] = f.gate;
+            ints[2 * t + i] = f.op;
+        }
     }
-    32
+
+    // All of them, 32 at a time, into the columns from place `to` on. No struct holds `ints` and t: each call would have to
+    // promise that it still holds the same slice.
+    fn measure(self, ints: &mut [i32], t: usize, to: usize)
+        requires { (to + self.n ≤ t) × (column_count * t ≤ length ints.old) }
+        ensures { Filled t to self.entry.n (figure_of self.entry.img.now self.entry.w self.entry.at self.entry.s)
+            ints.old ints.new }
+    {
+        for i in 0..self.n.div_ceil(MOST) {
+            let k = i * MOST;
+            let some = Row {
+                img: self.img,
+                w: self.w,
+                at: self.at + k * self.s,
+                s: self.s,
+                n: (self.n - k).min(MOST),
+            };
+            some.measure_some(ints, t, to + k);
+        }
+    }
 }
 
 // Every window of the pass, in sampling order, into columns as long as there are windows.
-pub fn measure(img: &[u8], w: usize, h: usize, windows: usize, ints: &mut [i32]) -> usize
-    requires { Measurable img.now w h windows ints.old }
-    ensures { (result ≡ total_of w h windows)
-        × (ints.new ≡ columns_in (figures_of img.now w h windows) ints.old) }
+pub fn measure(img: &[u8], grid: Grid, ints: &mut [i32]) -> usize
+    requires { Measurable img.now grid.w grid.h grid.windows ints.old }
+    ensures { (result ≡ total_of grid.w grid.h grid.windows)
+        × (ints.new ≡ columns_in (figures_of img.now grid.w grid.h grid.windows) ints.old) }
 {
-    let t = grid::window_count(w, h, windows);
-    let s = grid::step(w, h, windows);
-    let m = grid::rows(h, s);
+    let w = grid.w;
+    let t = grid.window_count();
+    let s = grid.step();
     let mut to = 0;
-    let mut j = 0;
-    while j < m {
+    for j in 0..grid::rows(grid.h, s) {
         let x = grid::first_x(j, s);
         let n = grid::row_count(w, s, j);
-        measure_row(img, w, j * s, x, s, n, ints, t, to);
+        let row = Row {
+            img,
+            w,
+            at: j * s * w + x,
+            s,
+            n,
+        };
+        row.measure(ints, t, to);
         to += n;
-        j += 1;
     }
     t
 }

@@ -1,19 +1,17 @@
 -- Thousandths see only the value, so the pattern's digits over a power of two stand for it.
 use mathlib.Core.Path.{◌≡◌, refl, sym, ap, ◌∙◌, subst}
-use mathlib.Core.Bool.{Bool, true, false, not, cond}
+use mathlib.Core.Bool.{Bool, true, false, not, cond, false≢true}
 use mathlib.Core.Logic.{◌⊎◌, inl, inr}
 use Prim.Native.Nat.{ℕ, ◌+◌, ◌-◌, ◌*◌, ◌/◌, ◌%◌, ◌^◌, ◌≤◌, ◌<◌, min}
 use native.Mathlib.Nat.{le-div_iff_mul-le, div-eq_of_lt, add-div_right, div-div-eq-div-mul, mul_assoc, mul-le-mul, mul-le-mul_left, lt_of_lt_of_le, lt_of_le_of_lt, not-le_of_lt, eq-or-lt_of_le, eq-zero-or-pos, mod-eq_of_lt}
 use native.Mathlib.Omega.{arith}
 use lib.Dec.{T, lit≤}
 use lib.Pow.{pow-add, pow_pos, pow_mono, shl_lt}
-use lib.Ieee.{Float, nan, inf, fin, binary32, fits, is_nan, to_bits, of_bits, up, down, ne}
+use lib.Ieee.{Float, nan, inf, fin, binary32, fits, is_nan, to_bits, of_bits, up, down}
 use lib.Ieee.Bits.{of_bits-to_bits}
-use lib.Ieee.Compare.{differs_from_itself}
 use lib.Ieee.Exact.{HasValue}
 use lib.Ieee.Fits.{down_pos}
 use lib.Ieee.Nearest.{div_same}
-use Rattle.ieee.proofs.Tests.{yes}
 use Rattle.ieee.proofs.Reading.{read_low, read_high, fin_low, inf_low, in_size}
 use Rattle.ieee.proofs.Values.{rescale}
 use Rattle.milli.specs.Thousandths.{thousandths, milli_of}
@@ -25,7 +23,7 @@ thousandths_same : (a b c d : ℕ) → 0 < b → 0 < d → a * d ≡ c * b → t
 thousandths_same a b c d B D e = div_same (a * 2000 + b) (b * 2) (c * 2000 + d) (d * 2) (omega arith) (omega arith) (omega arith)
 
 -- half thousandths, cut down, of which an odd number goes up
-pub odd_up : (a c : ℕ) → 0 < c → (a * 2000 / c + 1) / 2 ≡ thousandths a c
+odd_up : (a c : ℕ) → 0 < c → (a * 2000 / c + 1) / 2 ≡ thousandths a c
 odd_up a c C = ap (λ (h : ℕ). h / 2) (sym (add-div_right (a * 2000) C)) ∙ div-div-eq-div-mul (a * 2000 + c) c 2
 
 -- none below half a thousandth
@@ -47,9 +45,14 @@ thousandths_most a c C h = capped (thousandths a c) ((le-div_iff_mul-le (omega a
 
 -- ---- a float's
 
-pub milli_nan : (x : Float) → ne x x ≡ true → 0 ≡ milli_of x
-unfolding milli_of
-milli_nan x h = rw (differs_from_itself x (yes h))
+pub milli_nan : (x : Float) → is_nan x ≡ true → 0 ≡ milli_of x
+unfolding milli_of is_nan
+milli_nan nan h = refl
+milli_nan (inf s) h = absurd (false≢true h)
+milli_nan (fin s m e) h = absurd (false≢true h)
+
+pub plain : (x : Float) → false ≡ is_nan x → T (not (is_nan x))
+plain x h = subst (λ (b : Bool). T (not b)) h tt
 
 pub milli_minus : (x : Float) → T (fits binary32 x) → 2 ^ 31 ≤ to_bits binary32 x → 0 ≡ milli_of x
 unfolding milli_of
@@ -131,15 +134,8 @@ module _ (x : Float) (F : T (fits binary32 x)) (N : T (not (is_nan x))) (S : to_
       go (inl z) = small (b % 2 ^ 23 * 2 ^ 0) (shl_lt 137 0 (lt_of_lt_of_le {m = 2 ^ 23} (omega arith) (pow_mono {i = 23} {j = 137} (lit≤ tt)))) (read (b % 2 ^ 23 * 2 ^ 0) (2 ^ 149) (read_low binary32 b S z))
       go (inr q) = small (digits * 2 ^ (field - 1)) (lt_of_lt_of_le (shl_lt 24 (field - 1) (omega arith)) (pow_mono {i = 24 + (field - 1)} {j = 137} (omega arith))) (high q (omega arith))
 
-  -- the code's q, and where it is more than 32 bits hold
-  pub milli_over : (d q : ℕ) → field < 150 → Part field d → q ≡ thousandths digits (2 ^ d) → 0xffff_ffff < q → 0xffff_ffff ≡ milli_of x
-  milli_over d q h p e l = sym (milli_part d h p ∙ most (thousandths digits (2 ^ d)) (subst (λ (t : ℕ). 0xffff_ffff < t) e l))
-    where
-      most : (t : ℕ) → 0xffff_ffff < t → min t (2 ^ 32 - 1) ≡ 0xffff_ffff
-      most t l = omega arith
-
-  pub milli_is : (d q : ℕ) → field < 150 → Part field d → q ≡ thousandths digits (2 ^ d) → q ≤ 0xffff_ffff → q ≡ milli_of x
-  milli_is d q h p e l = all q l ∙ ap (λ (t : ℕ). min t (2 ^ 32 - 1)) e ∙ sym (milli_part d h p)
-    where
-      all : (t : ℕ) → t ≤ 0xffff_ffff → t ≡ min t (2 ^ 32 - 1)
-      all t l = omega arith
+  -- the code's result, of digits n, m being the largest u32
+  pub milli_is : (n d m : ℕ) → field < 150 → Part field d → n ≡ digits → m ≡ 0xffff_ffff → min ((n * 2000 / 2 ^ d + 1) / 2) m ≡ milli_of x
+  milli_is n d m h p e f =
+      ap (λ (k : ℕ). min ((k * 2000 / 2 ^ d + 1) / 2) m) e ∙ ap (λ (t : ℕ). min t m) (odd_up digits (2 ^ d) (pow_pos d))
+      ∙ ap (λ (k : ℕ). min (thousandths digits (2 ^ d)) k) f ∙ sym (milli_part d h p)

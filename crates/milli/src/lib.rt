@@ -10,23 +10,20 @@ ghost use Rattle.milli.specs.Thousandths.{milli_of};
 pub fn milli(x: f32) -> u32
     ensures { result ≡ milli_of x }
 {
-    if x != x {
+    if x.is_nan() {
         return 0;
     }
-    let b = f32::to_bits(x);
+    let b = x.to_bits();
     if b >= 0x8000_0000 {
         return 0;
     }
     let field = b / 0x80_0000;
     if field >= 150 {
-        return 0xffff_ffff;
+        return u32::MAX;
     }
-    let digits = laws::wide(0x80_0000 + b % 0x80_0000);
+    let digits = u64::from(0x80_0000 + b % 0x80_0000);
     let d = if field >= 110 { 150 - field } else { 40 };
     let half_thousandths = digits * 2000 >> d;
     let q = (half_thousandths + 1) / 2;
-    if q > 0xffff_ffff {
-        return 0xffff_ffff;
-    }
-    q as u32
+    q.min(u64::from(u32::MAX)) as u32
 }

@@ -1,12 +1,13 @@
 -- Which tables of knots are taken, and what they give at a width.
-use Rattle.std.specs.Prelude.{ℕ, ◌-◌, Bool, cond, not, ◌&&◌, List, leb, ltb, eqb, Float}
+use Rattle.std.specs.Prelude.{ℕ, ◌-◌, Bool, cond, not, ◌&&◌, List, leb, ltb, Float, Option, Result, Ok, Err}
+use Rattle.numbers.specs.declared.Number.{Number}
+use Rattle.numbers.specs.declared.Number.TheVariants.{Knots, FloatRange}
+use Rattle.numbers.specs.Numbers.{number_in}
 use Rattle.ieee.specs.Numbers.{plus_zero}
 use Rattle.ranges.specs.Ranges.{up_to}
-use Rattle.knots.specs.declared.Width.{Width}
 use Rattle.knots.specs.Places.{every, rises_at, knot_at, place, value_at}
 use Rattle.model.specs.declared.SystematicModel.{SystematicModel}
-use Rattle.model.specs.declared.At.{At}
-use Rattle.model.specs.declared.At.TheVariants.{Given, Refused}
+use Rattle.model.specs.declared.GainResidual.{GainResidual}
 
 -- a table of n knots
 abbrev pub table : ℕ → Float → List Float → List Float → List Float → SystematicModel
@@ -22,30 +23,37 @@ knots_in_range s =
     ((every (knot_at s.widths) s.count && every (knot_at s.gains) s.count) && every (knot_at s.residuals) s.count)
     && up_to 1000 s.floor
 
--- 14: no knot, over 16, or widths that don't rise strictly; then 12
-unfoldable pub knots_number : SystematicModel → ℕ
-knots_number s = cond (not (rising_knots s)) 14 (cond (not (knots_in_range s)) 12 0)
+-- 14: no knot, over 16, or widths that don't rise strictly; then 12; then what follows
+unfoldable pub after_knots : {A : Type 0} → SystematicModel → Result A Number → Result A Number
+after_knots s next = cond (not (rising_knots s)) (Err Knots) (cond (not (knots_in_range s)) (Err FloatRange) next)
 
-abbrev pub gain_at : SystematicModel → Width → Float
+-- what refuses the knots, if anything does
+abbrev pub knots_judged : SystematicModel → Result Unit Number
+knots_judged s = after_knots s (Ok tt)
+
+-- 14, then 12, or 0
+abbrev pub knots_number : SystematicModel → ℕ
+knots_number s = number_in (knots_judged s)
+
+abbrev pub gain_at : SystematicModel → Option Float → Float
 gain_at s w = value_at s.gains (place s.widths s.count w)
 
-abbrev pub residual_at : SystematicModel → Width → Float
+abbrev pub residual_at : SystematicModel → Option Float → Float
 residual_at s w = value_at s.residuals (place s.widths s.count w)
 
-unfoldable pub at_of : SystematicModel → Width → At
-unfolding knots_number place value_at
-at_of s w = cond (eqb (knots_number s) 0) (Given (gain_at s w) (residual_at s w)) (Refused (knots_number s))
+abbrev pub both_at : SystematicModel → Option Float → GainResidual
+both_at s w = record { gain = gain_at s w; residual = residual_at s w }
 
--- ---- what the desk reads of an answer: its number, and its figures, zeros where there are none
+unfoldable pub at_of : SystematicModel → Option Float → Result GainResidual Number
+unfolding after_knots place value_at
+at_of s w = after_knots s (Ok (both_at s w))
 
-abbrev pub at_number : At → ℕ
-at_number (Given g r) = 0
-at_number (Refused n) = n
+-- ---- what the desk reads as figures beside an answer's number: zeros where there are none
 
-abbrev pub at_gain : At → Float
-at_gain (Given g r) = g
-at_gain (Refused n) = plus_zero
+abbrev pub at_gain : Result GainResidual Number → Float
+at_gain (Ok k) = k.gain
+at_gain (Err why) = plus_zero
 
-abbrev pub at_residual : At → Float
-at_residual (Given g r) = r
-at_residual (Refused n) = plus_zero
+abbrev pub at_residual : Result GainResidual Number → Float
+at_residual (Ok k) = k.residual
+at_residual (Err why) = plus_zero

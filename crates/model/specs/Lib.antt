@@ -2,4 +2,3 @@ pub mod Knots
 pub mod Systematic
 pub mod Model
 pub mod Answers
-pub mod Helpers

@@ -1,17 +1,19 @@
 // The systematic model of uncertainty.rs, and the covariance model that it makes, by value.
 #![tactic(auto)]
 
-ghost use Rattle.std.specs.Prelude.{◌≡◌, ◌<◌, ◌≤◌};
-ghost use Rattle.model.specs.Knots.{table, knots_number, at_of};
-ghost use Rattle.model.specs.Helpers.{pair_at};
+ghost use Rattle.std.specs.Prelude.{◌≡◌, Ok, Err, MatchResult, IfOk, length, take};
+ghost use Rattle.knots.specs.Places.{place, value_at};
+ghost use Rattle.model.specs.Knots.{knots_judged, at_of};
 ghost use Rattle.model.specs.Systematic.{uniform_variance, about, systematic};
-ghost use Rattle.model.specs.Model.{refused_model, model_of};
+ghost use Rattle.model.specs.Model.{model_of};
 
 use covariance::CovarianceModel;
-use knots::Width;
+use knots::Table;
+use numbers::Number;
 use refine::PositionCovariance;
 
 // Systematic error of a localizer: knots by increasing edge width, `count` of them, and an isotropic floor per axis, px.
+// Flat arrays and a count are the form that document 01 names for the knots in the model.
 #[derive(Drop)]
 pub struct SystematicModel {
     pub widths: [f32; 16],
@@ -23,24 +25,11 @@ pub struct SystematicModel {
     pub floor: f32,
 }
 
-// Gain and residual at a width, or the number that refuses the knots.
-#[derive(Drop)]
-pub enum At {
-    Given(f32, f32),
-    Refused(u32),
-}
-
-#[derive(Drop)]
-struct GainResidual {
-    gain: f32,
-    residual: f32,
-}
-
-// A model, or zeros under the number that refuses it.
-#[derive(Drop)]
-pub struct Modelled {
-    pub number: u32,
-    pub model: CovarianceModel,
+// What knots give at an edge width.
+#[derive(Clone, Copy, Debug, PartialEq)]
+pub struct GainResidual {
+    pub gain: f32,
+    pub residual: f32,
 }
 
 // Variance of a quantity spread uniformly over an interval `width` long.
@@ -57,82 +46,81 @@ fn about_of(ex: f32, ey: f32, spread: f32) -> PositionCovariance
     PositionCovariance::new(ex * ex + spread, ex * ey, ey * ey + spread)
 }
 
-fn systematic_of(g: f32, rho: f32, floor: f32, offset: [f32; 2], grid: f32) -> PositionCovariance
-    ensures { result ≡ systematic g rho floor offset grid }
+// The systematic covariance of an estimate at `offset` from the centre of its fit window.
+fn systematic_of(k: GainResidual, floor: f32, offset: [f32; 2], grid: f32) -> PositionCovariance
+    ensures { result ≡ systematic k.gain k.residual floor offset grid }
 {
+    let GainResidual { gain, residual } = k;
+    let [x, y] = offset;
     let prior = uniform_variance(grid);
-    let rho2 = rho * rho;
-    let denom = g * g * prior + rho2;
+    let rho2 = residual * residual;
+    let denom = gain * gain * prior + rho2;
     if denom <= 0.0 {
-        return about_of(offset[0], offset[1], prior + floor * floor);
+        return about_of(x, y, prior + floor * floor);
     }
-    let shrink = g * prior / denom;
+    let shrink = gain * prior / denom;
     about_of(
-        offset[0] - shrink * offset[0],
-        offset[1] - shrink * offset[1],
+        x - shrink * x,
+        y - shrink * y,
         prior * rho2 / denom + floor * floor,
     )
 }
 
-// What refuses the knots: 14, then 12, or 0.
-#[tactic(auto, unfolding(crate::specs::Knots::knots_number))]
-fn knots_number(
-    widths: &[f32; 16],
-    gains: &[f32; 16],
-    residuals: &[f32; 16],
-    count: usize,
-    floor: f32,
-) -> u32
-    ensures { result ≡ knots_number (table count floor widths.now gains.now residuals.now) }
+// Gain and residual of knots at an edge width.
+fn at_knots(knots: Table<'_>, width: Option<f32>) -> GainResidual
+    ensures gain { result.gain
+        ≡ value_at knots.entry.gains.now
+        (place knots.entry.widths.now (length knots.entry.widths.now) width) }
+    ensures residual { result.residual
+        ≡ value_at knots.entry.residuals.now
+        (place knots.entry.widths.now (length knots.entry.widths.now) width) }
 {
-    if count == 0 {
-        return 14;
-    }
-    if count > 16 {
-        return 14;
-    }
-    if knots::rises_in_range(widths, gains, residuals, count) & ranges::up_to_thousand(floor) {
-        return 0;
-    }
-    if knots::rises(widths, count - 1) {
-        12
-    } else {
-        14
-    }
-}
-
-// Gain and residual at an edge width, of knots that nothing refuses.
-fn at_knots(
-    widths: &[f32; 16],
-    gains: &[f32; 16],
-    residuals: &[f32; 16],
-    count: usize,
-    width: Width,
-) -> GainResidual
-    requires { (0 < count) × (count ≤ 16) }
-    ensures { result ≡ pair_at widths.now gains.now residuals.now count width }
-{
-    let p = knots::place_of(widths, count, width);
+    let p = knots.place(width);
     GainResidual {
-        gain: knots::interpolated(gains, p),
-        residual: knots::interpolated(residuals, p),
+        gain: knots::interpolated(knots.gains, p),
+        residual: knots::interpolated(knots.residuals, p),
     }
 }
 
 impl SystematicModel {
+    // The counted knots, where nothing refuses them.
+    #[tactic(auto, using(crate::proofs::Refusals::no_knot, crate::proofs::Refusals::many_knots))]
+    fn knots(&self) -> Result<Table<'_>, Number>
+        ensures judged { MatchResult result (λ t. Ok tt ≡ knots_judged self.now) (λ why. Err why ≡ knots_judged self.now) }
+        ensures widths { IfOk result (λ t. t.widths.now ≡ take self.now.count self.now.widths) }
+        ensures gains { IfOk result (λ t. t.gains.now ≡ take self.now.count self.now.gains) }
+        ensures residuals { IfOk result (λ t. t.residuals.now ≡ take self.now.count self.now.residuals) }
+        ensures counted { IfOk result (λ t. length t.widths.now ≡ self.now.count) }
+    {
+        let n = self.count;
+        if n == 0 {
+            return Err(Number::Knots);
+        }
+        if n > 16 {
+            return Err(Number::Knots);
+        }
+        let widths = &self.widths[..n];
+        let gains = &self.gains[..n];
+        let residuals = &self.residuals[..n];
+        if knots::rises_in_range(widths, gains, residuals) & ranges::up_to::<1000>(self.floor) {
+            return Ok(Table {
+                widths,
+                gains,
+                residuals,
+            });
+        }
+        if knots::rises(widths) {
+            Err(Number::FloatRange)
+        } else {
+            Err(Number::Knots)
+        }
+    }
+
     // Gain and residual at an edge width.
-    pub fn at(self, width: Width) -> At
+    pub fn at(self, width: Option<f32>) -> Result<GainResidual, Number>
         ensures { result ≡ at_of self width }
     {
-        let widths = self.widths;
-        let gains = self.gains;
-        let residuals = self.residuals;
-        let number = knots_number(&widths, &gains, &residuals, self.count, self.floor);
-        if number != 0 {
-            return At::Refused(number);
-        }
-        let k = at_knots(&widths, &gains, &residuals, self.count, width);
-        At::Given(k.gain, k.residual)
+        Ok(at_knots(self.knots()?, width))
     }
 
     // The covariance model of an estimate with noise term `noise`, at `offset` px from the centre of its fit window on a
@@ -141,51 +129,23 @@ impl SystematicModel {
         self,
         noise: PositionCovariance,
         offset: [f32; 2],
-        width: Width,
+        width: Option<f32>,
         grid: f32,
-    ) -> Modelled
+    ) -> Result<CovarianceModel, Number>
         ensures { result ≡ model_of self noise offset width grid }
     {
-        let widths = self.widths;
-        let gains = self.gains;
-        let residuals = self.residuals;
-        let number = knots_number(&widths, &gains, &residuals, self.count, self.floor);
-        if number != 0 {
-            return refused(number);
-        }
-        let at = at_knots(&widths, &gains, &residuals, self.count, width);
+        let at = at_knots(self.knots()?, width);
         if !(ranges::all_within(noise)
             & ranges::both_within(offset)
-            & ranges::up_to_thousand(grid))
+            & ranges::up_to::<1000>(grid))
         {
-            return refused(12);
+            return Err(Number::FloatRange);
         }
-        let systematic = systematic_of(at.gain, at.residual, self.floor, offset, grid);
-        if !systematic.is_finite() {
-            return refused(13);
-        }
-        Modelled {
-            number: 0,
-            model: CovarianceModel {
-                noise,
-                systematic,
-                growth: [0.0, 0.0],
-            },
-        }
-    }
-}
-
-// Zeros under a number.
-fn refused(number: u32) -> Modelled
-    ensures { result ≡ refused_model number }
-{
-    let zeros = PositionCovariance::new(0.0, 0.0, 0.0);
-    Modelled {
-        number,
-        model: CovarianceModel {
-            noise: zeros,
-            systematic: zeros,
+        let systematic = systematic_of(at, self.floor, offset, grid).finite()?;
+        Ok(CovarianceModel {
+            noise,
+            systematic,
             growth: [0.0, 0.0],
-        },
+        })
     }
 }

@@ -2,15 +2,20 @@
 use mathlib.Core.Path.{◌≡◌, refl, sym, ap, ◌∙◌}
 use mathlib.Core.Bool.{Bool, true, false, cond, ◌||◌}
 use mathlib.Core.List.{List}
-use Prim.Native.Nat.{ℕ, ◌+◌, ◌*◌, ◌≤◌, ◌<◌}
+use mathlib.Core.Logic.{◌⊎◌, inl, inr}
+use Prim.Native.Nat.{ℕ, ◌+◌, ◌-◌, ◌*◌, ◌≤◌, ◌<◌}
 use native.Mathlib.Omega.{arith}
 use native.Mathlib.Nat.{le_trans}
 use borrow.Author.Tests.{lt-ltb, le-ltb, eq-eqb, ne_eqb, ltb-false}
 use lib.Dec.{ltb, eqb}
-use lib.ListN.{length}
+use lib.ListN.{length, get_or}
 use lib.IntN.{ℤ}
 use lib.Ieee.{Float}
-use Rattle.laws.proofs.Choice.{passed}
+use Rattle.laws.proofs.Choice.{chosen, passed}
+use Rattle.std.specs.Prelude.{Result, Ok, Err}
+use Rattle.numbers.specs.declared.Number.{Number}
+use Rattle.numbers.specs.declared.Number.TheVariants.{SideAbove, OtherLength, SideBelow, ShortSlice}
+use Rattle.numbers.specs.Numbers.{number_of, all, in_order, apart}
 use Rattle.limits.specs.Limits.{too_large, other_length, too_small, image_number}
 use Rattle.limits.proofs.Laws.{neither, not_large, not_small, not_refused, as_long}
 use Rattle.grid.specs.Grid.{Sides}
@@ -20,15 +25,14 @@ use Rattle.grid.proofs.Memory.{no_more}
 use Rattle.grid.proofs.Steps.{few}
 use Rattle.pass.specs.Memory.{ints_for, floats_for}
 use Rattle.noise.specs.Refusals.{short_of, refusal_of}
-use Rattle.noise.specs.declared.Verdict.{Verdict}
-use Rattle.noise.specs.Steps.{Ready, verdict_against, verdict_for, verdict_by, verdict_of}
+use Rattle.noise.specs.Steps.{Ready, verdict_of}
 
 -- ---- by what a test says, zero being whether the image has no number
 
 by : Bool → ℕ → Bool → Bool → ℕ
 by zero image small short = cond zero (cond small 3 (cond short 4 0)) image
 
-contrary : {A : Type 0} → true ≡ false → A
+pub contrary : {A : Type 0} → true ≡ false → A
 contrary e = absurd (let q : ◌≡◌ {A = ℕ} 0 1 = cc in omega arith)
 
 most : (zero : Bool) (image : ℕ) (small short : Bool) → image ≤ 4 → by zero image small short ≤ 4
@@ -142,44 +146,69 @@ accepted img w h ints floats m e r =
 
 -- ---- the verdict
 
+-- no reason has number 0
+pub some_number : (why : Number) → number_of why ≡ 0 → ⊥
+some_number why e =
+    let first : why ≡ SideAbove = sym (in_order why) ∙ ap (λ (n : ℕ). get_or all (n - 1) SideAbove) e in
+    let q : ◌≡◌ {A = ℕ} 1 0 = sym (ap (λ (y : Number). number_of y) first) ∙ e in
+    omega arith
+
 module _ (n w h ints floats : ℕ) where
   abbrev short : Bool
   short = short_of w h ints floats
 
-  against : (k : ℕ) → (k ≡ 0 → ⊥) → refusal_of n w h short ≡ k → {v : Verdict} → v ≡ verdict_against k → v ≡ verdict_of n w h ints floats
+  abbrev rest : Result ℕ Number
+  rest = cond (too_small w h) (Err SideBelow) (cond short (Err ShortSlice) (Ok (needed_of w h)))
+
+  pub verdict_image : (why : Number) → number_of why ≡ image_number n w h → Err why ≡ verdict_of n w h ints floats
   unfolding verdict_of
-  against k z e p = p ∙ passed (eqb k 0) (verdict_for (needed_of w h)) (verdict_against k) (ne_eqb k 0 z) ∙ ap (λ (i : ℕ). verdict_by i (needed_of w h)) (sym e)
+  verdict_image why = go (too_large w h) (other_length n w h)
+    where
+      go : (large other : Bool) → number_of why ≡ cond large 1 (cond other 2 0)
+          → ◌≡◌ {A = Result ℕ Number} (Err why) (cond large (Err SideAbove) (cond other (Err OtherLength) rest))
+      go true other e = ap (λ (y : Number). Err y) (apart why SideAbove e)
+      go false true e = ap (λ (y : Number). Err y) (apart why OtherLength e)
+      go false false e = absurd (some_number why e)
 
-  for : refusal_of n w h short ≡ 0 → verdict_for (needed_of w h) ≡ verdict_of n w h ints floats
+  -- M is the only figure of a verdict
+  pub verdict_windows : (m : ℕ) → verdict_of n w h ints floats ≡ Ok m → m ≡ needed_of w h
   unfolding verdict_of
-  for e = ap (λ (i : ℕ). verdict_by i (needed_of w h)) (sym e)
+  verdict_windows m = go (too_large w h) (other_length n w h) (too_small w h) short
+    where
+      go : (large other small short : Bool)
+          → ◌≡◌ {A = Result ℕ Number} (cond large (Err SideAbove) (cond other (Err OtherLength) (cond small (Err SideBelow) (cond short (Err ShortSlice) (Ok (needed_of w h)))))) (Ok m)
+          → m ≡ needed_of w h
+      go true other small short e = cc
+      go false true small short e = cc
+      go false false true short e = cc
+      go false false false true e = cc
+      go false false false false e = cc
 
-  -- k is what the image was found to be
-  module _ (k : ℕ) (is : k ≡ image_number n w h) where
-    pub verdict_image : (k ≡ 0 → ⊥) → {v : Verdict} → v ≡ verdict_against k → v ≡ verdict_of n w h ints floats
-    verdict_image z p = against k z (by_image n w h short (λ e. z (is ∙ e)) ∙ sym is) p
+  -- the image has none
+  module _ (z : 0 ≡ image_number n w h) where
+    by_rest : rest ≡ verdict_of n w h ints floats
+    unfolding verdict_of
+    by_rest = let f = not_refused n w h (sym z) in rw (f.0, f.1) refl
 
-    module _ (z : k ≡ 0) where
-      pub verdict_side : too_small w h ≡ true → {v : Verdict} → v ≡ verdict_against 3 → v ≡ verdict_of n w h ints floats
-      verdict_side e p = against 3 (λ q. omega arith) (by_side n w h (sym is ∙ z) short e) p
+    pub verdict_side : true ≡ too_small w h → Err SideBelow ≡ verdict_of n w h ints floats
+    verdict_side e = chosen (too_small w h) (Err SideBelow) (cond short (Err ShortSlice) (Ok (needed_of w h))) (sym e) ∙ by_rest
 
-      module _ (fine : too_small w h ≡ false) where
-        pub fit : Sides w h
-        fit = sides n w h (sym is ∙ z) fine
+    module _ (fine : false ≡ too_small w h) where
+      pub fit : Sides w h
+      fit = sides n w h (sym z) (sym fine)
 
-        module _ (m : ℕ) (needs : m ≡ needed_of w h) where
-          pub needed_few : m ≤ 268435456
-          needed_few = omega (arith, needed_most w h fit)
+      by_memory_left : cond short (Err ShortSlice) (Ok (needed_of w h)) ≡ verdict_of n w h ints floats
+      by_memory_left = passed (too_small w h) (Err SideBelow) (cond short (Err ShortSlice) (Ok (needed_of w h))) (sym fine) ∙ by_rest
 
-          memory : (b : Bool) → short ≡ b → refusal_of n w h short ≡ cond b 4 0
-          memory b e = by_memory n w h (sym is ∙ z) fine short ∙ ap (λ (x : Bool). cond x 4 0) e
+      module _ (m : ℕ) (needs : m ≡ needed_of w h) where
+        pub needed_few : m ≤ 268435456
+        needed_few = omega (arith, needed_most w h fit)
 
-          pub verdict_ints : ints < 3 * m → {v : Verdict} → v ≡ verdict_against 4 → v ≡ verdict_of n w h ints floats
-          verdict_ints l p = against 4 (λ q. omega arith) (memory true (short_ints w h ints floats m needs l)) p
+        pub verdict_short : (ints < 3 * m) ⊎ ((3 * m ≤ ints) × (floats < 2 * m + 2)) → Err ShortSlice ≡ verdict_of n w h ints floats
+        verdict_short (inl p) = chosen short (Err ShortSlice) (Ok (needed_of w h)) (short_ints w h ints floats m needs p) ∙ by_memory_left
+        verdict_short (inr p) = chosen short (Err ShortSlice) (Ok (needed_of w h)) (short_floats w h ints floats m needs p.0 p.1) ∙ by_memory_left
 
-          module _ (l : 3 * m ≤ ints) where
-            pub verdict_floats : floats < 2 * m + 2 → {v : Verdict} → v ≡ verdict_against 4 → v ≡ verdict_of n w h ints floats
-            verdict_floats f p = against 4 (λ q. omega arith) (memory true (short_floats w h ints floats m needs l f)) p
-
-            pub verdict_none : 2 * m + 2 ≤ floats → verdict_for m ≡ verdict_of n w h ints floats
-            verdict_none f = ap verdict_for needs ∙ for (memory false (enough w h ints floats m needs l f))
+        pub verdict_none : 3 * m ≤ ints → 2 * m + 2 ≤ floats → Ok m ≡ verdict_of n w h ints floats
+        verdict_none p q =
+            ap (λ (k : ℕ). Ok k) needs
+            ∙ passed short (Err ShortSlice) (Ok (needed_of w h)) (enough w h ints floats m needs p q) ∙ by_memory_left

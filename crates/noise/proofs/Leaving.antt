@@ -1,20 +1,21 @@
 -- What a refused call leaves, and what one that measures does.
-use mathlib.Core.Path.{◌≡◌, refl, sym, ap, ◌∙◌}
-use mathlib.Core.Bool.{Bool, true, false, cond}
+use mathlib.Core.Path.{◌≡◌, sym, ap, ◌∙◌}
+use mathlib.Core.Bool.{Bool, cond}
 use mathlib.Core.List.{List}
 use Prim.Native.Nat.{ℕ}
-use lib.Dec.{eqb}
 use lib.ListN.{length}
 use lib.IntN.{ℤ}
 use lib.Ieee.{Float}
 use borrow.Author.Tests.{eq-eqb, ne_eqb}
+use Rattle.std.specs.Prelude.{Result, Ok, Err}
+use Rattle.numbers.specs.declared.Number.{Number}
+use Rattle.numbers.specs.Numbers.{number_of, number_in}
 use Rattle.grid.specs.Needed.{needed_of}
 use Rattle.answer.specs.declared.Answer.{Answer}
-use Rattle.noise.specs.declared.Verdict.{Verdict}
 use Rattle.noise.specs.Refusals.{short_of, refusal_of}
 use Rattle.noise.specs.Call.{refused, measured, noise_of, ran, cleared_ints, cleared_floats, left_ints, left_floats}
-use Rattle.noise.specs.Steps.{verdict_by, verdict_of, Ready}
-use Rattle.noise.proofs.Causes.{accepted}
+use Rattle.noise.specs.Steps.{verdict_of, verdict_number, Ready}
+use Rattle.noise.proofs.Causes.{accepted, some_number, verdict_windows}
 use Rattle.noise.proofs.Numbers.{measured_ran, refusal_stays}
 
 -- ---- by the number of a refusal
@@ -41,38 +42,41 @@ module _ (img : List ℕ) (w h : ℕ) (short : Bool) where
 
 -- ---- by the verdict on its arguments
 
-module _ (img : List ℕ) (w h : ℕ) (ints : List ℤ) (floats : List Float) (v : Verdict) (is : v ≡ verdict_of (length img) w h (length ints) (length floats)) where
+module _ (img : List ℕ) (w h : ℕ) (ints : List ℤ) (floats : List Float) (v : Result ℕ Number)
+    (is : v ≡ verdict_of (length img) w h (length ints) (length floats)) where
   abbrev short : Bool
   short = short_of w h (length ints) (length floats)
 
-  pub number_is : v.number ≡ refusal_of (length img) w h short
-  unfolding verdict_of
-  number_is = ap (λ (x : Verdict). x.number) is ∙ either (refusal_of (length img) w h short) (eqb (refusal_of (length img) w h short) 0) refl
-    where
-      either : (n : ℕ) (b : Bool) → eqb n 0 ≡ b → (cond {A = Verdict} b (record { number = 0; windows = needed_of w h }) (record { number = n; windows = 0 })).number ≡ n
-      either n true e = sym (borrow.Author.Tests.eqb-true n 0 e)
-      either n false e = refl
-
-  pub windows_is : v.number ≡ 0 → v.windows ≡ needed_of w h
-  unfolding verdict_of
-  windows_is z = ap (λ (x : Verdict). x.windows) is ∙ ap (λ (n : ℕ). (verdict_by n (needed_of w h)).windows) (sym number_is ∙ z)
-
-  pub ready : v.number ≡ 0 → Ready img w h v.windows ints floats
-  ready z = accepted img w h ints floats v.windows (windows_is z) (sym number_is ∙ z)
+  pub number_is : number_in v ≡ refusal_of (length img) w h short
+  number_is = ap (λ (x : Result ℕ Number). number_in x) is ∙ verdict_number (length img) w h (length ints) (length floats)
 
   -- the three parts of the contract
   abbrev Parts : Answer → List ℤ → List Float → Type 0
   Parts a i f = (a ≡ noise_of img w h short) × (i ≡ left_ints a.number w h ints) × (f ≡ left_floats a.number w h floats)
 
-  pub leaves_all : (v.number ≡ 0 → ⊥) → (a : Answer) → a ≡ refused v.number → Parts a ints floats
-  leaves_all n a e =
-      let no : refusal_of (length img) w h short ≡ 0 → ⊥ = λ z. n (number_is ∙ z) in
-      let same = e ∙ ap refused number_is in
-      (same ∙ sym (noise_refused img w h short no), all_stays img w h short a (cleared_ints (needed_of w h) ints) ints same no, all_stays img w h short a (cleared_floats (needed_of w h) floats) floats same no)
+  module _ (why : Number) (e : v ≡ Err why) where
+    refused_is : number_of why ≡ refusal_of (length img) w h short
+    refused_is = sym (ap (λ (x : Result ℕ Number). number_in x) e) ∙ number_is
 
-  pub clears : v.number ≡ 0 → (a : Answer) (i : List ℤ) (f : List Float) → a ≡ measured img w h → i ≡ cleared_ints v.windows ints → f ≡ cleared_floats v.windows floats → Parts a i f
-  clears z a i f p q r = (
-    p ∙ sym (noise_measured img w h short (sym number_is ∙ z)),
-    q ∙ ap (λ (m : ℕ). cleared_ints m ints) (windows_is z) ∙ all_changes img w h short a (cleared_ints (needed_of w h) ints) ints p,
-    r ∙ ap (λ (m : ℕ). cleared_floats m floats) (windows_is z) ∙ all_changes img w h short a (cleared_floats (needed_of w h) floats) floats p,
-  )
+    pub leaves_all : (a : Answer) → a ≡ refused (number_of why) → Parts a ints floats
+    leaves_all a p =
+        let no : refusal_of (length img) w h short ≡ 0 → ⊥ = λ z. some_number why (refused_is ∙ z) in
+        let same = p ∙ ap refused refused_is in
+        (same ∙ sym (noise_refused img w h short no), all_stays img w h short a (cleared_ints (needed_of w h) ints) ints same no, all_stays img w h short a (cleared_floats (needed_of w h) floats) floats same no)
+
+  module _ (m : ℕ) (e : v ≡ Ok m) where
+    none : refusal_of (length img) w h short ≡ 0
+    none = sym number_is ∙ ap (λ (x : Result ℕ Number). number_in x) e
+
+    pub windows_is : m ≡ needed_of w h
+    windows_is = verdict_windows (length img) w h (length ints) (length floats) m (sym is ∙ e)
+
+    pub ready : Ready img w h m ints floats
+    ready = accepted img w h ints floats m windows_is none
+
+    pub clears : (a : Answer) (i : List ℤ) (f : List Float) → a ≡ measured img w h → i ≡ cleared_ints m ints → f ≡ cleared_floats m floats → Parts a i f
+    clears a i f p q r = (
+      p ∙ sym (noise_measured img w h short none),
+      q ∙ ap (λ (n : ℕ). cleared_ints n ints) windows_is ∙ all_changes img w h short a (cleared_ints (needed_of w h) ints) ints p,
+      r ∙ ap (λ (n : ℕ). cleared_floats n floats) windows_is ∙ all_changes img w h short a (cleared_floats (needed_of w h) floats) floats p,
+    )

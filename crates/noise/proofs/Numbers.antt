@@ -11,16 +11,16 @@ use Rattle.ieee.specs.Numbers.{plus_zero}
 use Rattle.window.specs.declared.WindowStats.{WindowStats}
 use Rattle.grid.specs.Needed.{first_w, second_w}
 use Rattle.measure.specs.Figures.{figures_of}
-use Rattle.milli.specs.Thousandths.{milli_of}
 use Rattle.joining.proofs.Reasons.{Exactly}
 use Rattle.answer.specs.declared.Answer.{Answer}
-use Rattle.pass.specs.Pass.{pass_of, found_by, held_by}
+use Rattle.pass.specs.Pass.{noise_in, pass_of, found_by, held_by}
 use Rattle.pass.proofs.Reasons.{pass_exactly, pass_zero}
 use Rattle.noise.specs.Refusals.{refusal_of}
 use Rattle.noise.specs.Answers.{ending_in, decided}
 use Rattle.noise.specs.Call.{measured, one_runs, ran}
 use Rattle.noise.specs.Demand1.{kept_in, deciding}
 use Rattle.noise.proofs.Causes.{refusal_most}
+use Rattle.noise.proofs.Deciding.{no_milli}
 
 -- ---- the pass that decides
 
@@ -34,7 +34,7 @@ unfolding pass_of
 ends fs rounds passes =
     record {
       exactly = pass_exactly fs;
-      unless = λ n. (pass_zero fs n, ap (λ (b : Bool). cond b (milli_of (pass_of fs).sigma) 0) (ne_eqb (pass_of fs).number 0 n));
+      unless = λ n. (pass_zero fs n, sym (no_milli (noise_in fs).sigma n));
     }
 
 module _ (img : List ℕ) (w h : ℕ) where

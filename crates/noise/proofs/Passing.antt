@@ -7,7 +7,8 @@ use Prim.Native.Nat.{ℕ, ◌+◌, ◌*◌, ◌≤◌}
 use native.Mathlib.Omega.{arith}
 use lib.Dec.{eqb}
 use lib.ListN.{length, drop, replicate}
-use borrow.Author.Tests.{eq-eqb, ne_eqb}
+use borrow.Author.Tests.{eq-eqb}
+use Rattle.std.specs.Prelude.{is_ok}
 use lib.IntN.{ℤ, pos}
 use lib.Ieee.{Float}
 use Rattle.ieee.specs.Numbers.{plus_zero}
@@ -20,20 +21,17 @@ use Rattle.grid.proofs.Memory.{first_fits, second_fits}
 use Rattle.measure.specs.Figures.{figures_of}
 use Rattle.measure.specs.Columns.{columns_in}
 use Rattle.band.proofs.Counting.{kept_most}
-use Rattle.sample.specs.Laid.{laid_in}
+use Rattle.sample.specs.Laid.{laid_in, Collectable}
 use Rattle.sample.proofs.Parts.{figures_long, columns_beyond, laid_long, laid_beyond}
 use Rattle.answer.specs.declared.Answer.{Answer}
 use Rattle.pass.specs.declared.Pass.{Pass}
 use Rattle.pass.specs.Pass.{pass_of}
-use Rattle.pass.specs.Memory.{ints_for, floats_for, Runnable}
+use Rattle.pass.specs.Memory.{ints_for, floats_for}
 use Rattle.pass.proofs.Bounds.{rounds_most}
 use Rattle.noise.specs.Answers.{ending_in, first_decides, decided}
 use Rattle.noise.specs.Call.{measured, one_runs, cleared_ints, cleared_floats}
 use Rattle.noise.specs.Steps.{Ready, work_ints, work_floats}
-use Rattle.noise.proofs.Deciding.{first_gives, first_is_all, second_decides}
-
-contrary : {A : Type 0} → true ≡ false → A
-contrary e = absurd (let q : ◌≡◌ {A = ℕ} 0 1 = cc in omega arith)
+use Rattle.noise.proofs.Causes.{contrary}
 
 or_true : (a b : Bool) → b ≡ true → (a || b) ≡ true
 or_true true b e = refl
@@ -52,19 +50,23 @@ module _ {img : List ℕ} {w h m : ℕ} {ints : List ℤ} {floats : List Float} 
   first_in : total_of w h first_w ≤ m
   first_in = rw r.windows (first_fits w h)
 
+  -- a step of 1 leaves the first pass the only one
+  pub above_one : (p : Pass) → first_decides s p ≡ false → s ≡ 1 → ⊥
+  above_one p e o = contrary (sym (or_true (is_ok p.sigma) (eqb s 1) (eq-eqb s 1 o)) ∙ e)
+
   second_in : (s ≡ 1 → ⊥) → total_of w h second_w ≤ m
   second_in n = rw r.windows (second_fits w h n)
 
   -- what a pass asks for, at any slices of these lengths
-  runs : (windows : ℕ) → 1 ≤ windows → total_of w h windows ≤ m → (i : List ℤ) (f : List Float) → length i ≡ length ints → length f ≡ length floats → Runnable img w h windows i f
-  runs windows p t i f e g =
-      record { sides = r.sides; some = p; pixels = r.pixels; room_ints = omega (arith, r.room_ints); room_floats = omega (arith, r.room_floats) }
+  runs : (windows : ℕ) → total_of w h windows ≤ m → (i : List ℤ) (f : List Float) → length i ≡ length ints → length f ≡ length floats → Collectable img w h windows i f
+  runs windows t i f e g =
+      record { measurable = record { pixels = r.pixels; columns = omega (arith, r.room_ints) }; room = omega (arith, r.room_floats) }
 
-  pub runs_first : Runnable img w h first_w ints floats
-  runs_first = runs first_w (omega arith) first_in ints floats refl refl
+  pub runs_first : Collectable img w h first_w ints floats
+  runs_first = runs first_w first_in ints floats refl refl
 
-  pub runs_second : (s ≡ 1 → ⊥) → (i : List ℤ) (f : List Float) → length i ≡ length ints → length f ≡ length floats → Runnable img w h second_w i f
-  runs_second n i f e g = runs second_w (omega arith) (second_in n) i f e g
+  pub runs_second : (s ≡ 1 → ⊥) → (i : List ℤ) (f : List Float) → length i ≡ length ints → length f ≡ length floats → Collectable img w h second_w i f
+  runs_second n i f e g = runs second_w (second_in n) i f e g
 
   -- ---- what the passes leave: beyond M windows all is as it was
 
@@ -74,10 +76,6 @@ module _ {img : List ℕ} {w h m : ℕ} {ints : List ℤ} {floats : List Float} 
   second_few : (s ≡ 1 → ⊥) → length second ≤ m
   second_few n = omega (arith, figures_long img w h second_w, second_in n)
 
-  -- a step of 1 leaves the first pass the only one
-  above_one : one_runs img w h ≡ false → s ≡ 1 → ⊥
-  above_one e o = contrary (sym (or_true (eqb (pass_of first).number 0) (eqb s 1) (eq-eqb s 1 o)) ∙ e)
-
   ints_beyond : drop (ints_for m) (work_ints img w h ints) ≡ drop (ints_for m) ints
   unfolding work_ints
   ints_beyond = by_case (one_runs img w h) refl
@@ -85,7 +83,7 @@ module _ {img : List ℕ} {w h m : ℕ} {ints : List ℤ} {floats : List Float} 
       by_case : (b : Bool) → one_runs img w h ≡ b → drop (ints_for m) (cond b (columns_in first ints) (columns_in second (columns_in first ints))) ≡ drop (ints_for m) ints
       by_case true e = columns_beyond first ints (ints_for m) (omega (arith, first_few))
       by_case false e =
-          columns_beyond second (columns_in first ints) (ints_for m) (omega (arith, second_few (above_one e)))
+          columns_beyond second (columns_in first ints) (ints_for m) (omega (arith, second_few (above_one (pass_of first) e)))
           ∙ columns_beyond first ints (ints_for m) (omega (arith, first_few))
 
   floats_beyond : drop (floats_for m) (work_floats img w h floats) ≡ drop (floats_for m) floats
@@ -99,8 +97,8 @@ module _ {img : List ℕ} {w h m : ℕ} {ints : List ℤ} {floats : List Float} 
       by_case true e = once
       by_case false e =
           laid_beyond second (laid_in first floats) (floats_for m)
-          (omega (arith, kept_most second, second_few (above_one e), r.room_floats, laid_long first floats (omega (arith, kept_most first, first_few, r.room_floats))))
-          (omega (arith, kept_most second, second_few (above_one e)))
+          (omega (arith, kept_most second, second_few (above_one (pass_of first) e), r.room_floats, laid_long first floats (omega (arith, kept_most first, first_few, r.room_floats))))
+          (omega (arith, kept_most second, second_few (above_one (pass_of first) e)))
           ∙ once
 
   -- so clearing those leaves no trace of the passes
@@ -128,31 +126,28 @@ module _ {img : List ℕ} {w h m : ℕ} {ints : List ℤ} {floats : List Float} 
     unfolding work_floats
     two_floats e q = q ∙ ap (laid_in second) p ∙ passed (one_runs img w h) (laid_in first floats) (laid_in second (laid_in first floats)) e
 
-  -- which pass decides, p being what the first gave
+  -- ---- which pass decides and the answer, p being what the first gave
   module _ (p : Pass) (is : p ≡ pass_of first) where
-    pub runs_one : p.number ≡ 0 → one_runs img w h ≡ true
-    runs_one z = ap (first_decides s) (sym is) ∙ ap (λ (b : Bool). b || eqb s 1) (eq-eqb p.number 0 z)
+    -- t being the step
+    pub decides : {b : Bool} {t : ℕ} → t ≡ s → b ≡ first_decides t p → first_decides s p ≡ b
+    decides e h = sym (h ∙ ap (λ (k : ℕ). first_decides k p) e)
 
-    pub runs_only : s ≡ 1 → one_runs img w h ≡ true
-    runs_only o = or_true (eqb (pass_of first).number 0) (eqb s 1) (eq-eqb s 1 o)
+    pub runs_one : {b : Bool} → first_decides s p ≡ b → one_runs img w h ≡ b
+    runs_one e = ap (first_decides s) (sym is) ∙ e
 
-    pub runs_two : (p.number ≡ 0 → ⊥) → (s ≡ 1 → ⊥) → one_runs img w h ≡ false
-    runs_two n o = ap (first_decides s) (sym is) ∙ ap (λ (b : Bool). b || eqb s 1) (ne_eqb p.number 0 n) ∙ ne_eqb s 1 o
+    pub by_first : {a : Answer} → first_decides s p ≡ true → a ≡ ending_in p p.rounds 1 → a ≡ measured img w h
+    unfolding measured decided
+    by_first e f =
+        f ∙ ap (λ (x : Pass). ending_in x x.rounds 1) is
+        ∙ chosen (one_runs img w h) (ending_in (pass_of first) (pass_of first).rounds 1)
+        (ending_in (pass_of second) ((pass_of first).rounds + (pass_of second).rounds) 2) (runs_one e)
 
-  -- ---- the answer, p and q being what the passes gave
-
-  measured_is : (p q : Pass) → p ≡ pass_of first → q ≡ pass_of second → decided s p q ≡ measured img w h
-  unfolding measured
-  measured_is p q e f = ap (λ (x : Pass). decided s x q) e ∙ ap (λ (x : Pass). decided s (pass_of first) x) f
-
-  pub by_first : (p : Pass) (a : Answer) → p ≡ pass_of first → a ≡ ending_in p p.rounds 1 → p.number ≡ 0 → a ≡ measured img w h
-  by_first p a e f z = f ∙ first_gives s p (pass_of second) z ∙ measured_is p (pass_of second) e refl
-
-  pub by_only : (p : Pass) (a : Answer) (t : ℕ) → p ≡ pass_of first → a ≡ ending_in p p.rounds 1 → (p.number ≡ 0 → ⊥) → t ≡ s → t ≡ 1 → a ≡ measured img w h
-  by_only p a t e f n i o = f ∙ first_is_all s p (pass_of second) n (sym i ∙ o) ∙ measured_is p (pass_of second) e refl
-
-  pub by_second : (p q : Pass) (a : Answer) → p ≡ pass_of first → q ≡ pass_of second → a ≡ ending_in q (p.rounds + q.rounds) 2 → (p.number ≡ 0 → ⊥) → (s ≡ 1 → ⊥) → a ≡ measured img w h
-  by_second p q a e f g n o = g ∙ second_decides s p q n o ∙ measured_is p q e f
+    pub by_second : {a : Answer} (q : Pass) → q ≡ pass_of second → first_decides s p ≡ false → a ≡ ending_in q (p.rounds + q.rounds) 2 → a ≡ measured img w h
+    unfolding measured decided
+    by_second q f e g =
+        g ∙ ap (λ (x : Pass). ending_in q (x.rounds + q.rounds) 2) is ∙ ap (λ (x : Pass). ending_in x ((pass_of first).rounds + x.rounds) 2) f
+        ∙ passed (one_runs img w h) (ending_in (pass_of first) (pass_of first).rounds 1)
+        (ending_in (pass_of second) ((pass_of first).rounds + (pass_of second).rounds) 2) (runs_one e)
 
 -- rounds of two passes
 pub few_rounds : (fs gs : List WindowStats) (p q : Pass) → p ≡ pass_of fs → q ≡ pass_of gs → p.rounds + q.rounds ≤ 120

@@ -13,6 +13,7 @@ use Rattle.band.specs.Bands.{sample_of}
 use Rattle.measure.specs.Figures.{figures_of}
 use Rattle.band.proofs.Counting.{all_counted}
 use Rattle.sample.proofs.Parts.{figures_long}
+use Rattle.std.specs.Prelude.{is_ok}
 use Rattle.answer.specs.declared.Answer.{Answer}
 use Rattle.pass.specs.Pass.{pass_of}
 use Rattle.noise.specs.Answers.{ending_in, decided}
@@ -39,5 +40,5 @@ module _ (img : List ℕ) (w h : ℕ) where
   pub counts_add : windows_in (measured img w h) ≡ total_by w h (measured img w h).passes
   unfolding measured decided
   counts_add =
-      by_case (eqb (pass_of (figures_of img w h first_w)).number 0 || eqb (step_of (w * h) first_w) 1)
+      by_case (is_ok (pass_of (figures_of img w h first_w)).sigma || eqb (step_of (w * h) first_w) 1)
       (pass_of (figures_of img w h first_w)).rounds ((pass_of (figures_of img w h first_w)).rounds + (pass_of (figures_of img w h second_w)).rounds)

@@ -1,5 +1,7 @@
 -- Worked examples: the order of the causes, which pass decides, after which numbers memory is cleared and how far.
-use Rattle.std.specs.Prelude.{◌≡◌, refl, true, false, [], ◌∷◌, ℕ, pos, Float}
+use Rattle.std.specs.Prelude.{◌≡◌, refl, true, false, [], ◌∷◌, pos, Float, Result, Ok, Err}
+use Rattle.numbers.specs.declared.Number.{Number}
+use Rattle.numbers.specs.declared.Number.TheVariants.{Few, NoBand}
 use Rattle.std.specs.Float.Ieee.{of_int}
 use Rattle.ieee.specs.Numbers.{plus_zero, f32_of}
 use Rattle.milli.specs.Thousandths.{milli_of}
@@ -16,26 +18,26 @@ orders = (refl, refl, refl, refl, refl)
 
 -- ---- which pass decides
 
-abbrev first : ℕ → Float → Pass
-first number sigma = record { number = number; sigma = sigma; rounds = 3; b0 = 10; b1 = 11; b2 = 12; b3 = 13; rail = 14 }
+abbrev first : Result Float Number → Pass
+first sigma = record { sigma = sigma; rounds = 3; b0 = 10; b1 = 11; b2 = 12; b3 = 13; rail = 14 }
 
 abbrev second : Pass
-second = record { number = 6; sigma = plus_zero; rounds = 40; b0 = 20; b1 = 21; b2 = 22; b3 = 23; rail = 24 }
+second = record { sigma = Err NoBand; rounds = 40; b0 = 20; b1 = 21; b2 = 22; b3 = 23; rail = 24 }
 
 -- a figure decides at any step
-pub by_figure : decided 2 (first 0 (f32_of 2)) second
+pub by_figure : decided 2 (first (Ok (f32_of 2))) second
     ≡ record { number = 0; sigma = f32_of 2; milli = 2000; b0 = 10; b1 = 11; b2 = 12; b3 = 13; rail = 14; rounds = 3; passes = 1 }
 unfolding decided milli_of of_int
 by_figure = refl
 
 -- without one the first pass decides at step 1 alone
-pub at_step_1 : decided 1 (first 5 plus_zero) second
+pub at_step_1 : decided 1 (first (Err Few)) second
     ≡ record { number = 5; sigma = plus_zero; milli = 0; b0 = 10; b1 = 11; b2 = 12; b3 = 13; rail = 14; rounds = 3; passes = 1 }
 unfolding decided
 at_step_1 = refl
 
 -- the second's counts and the rounds of both
-pub at_step_2 : decided 2 (first 5 plus_zero) second
+pub at_step_2 : decided 2 (first (Err Few)) second
     ≡ record { number = 6; sigma = plus_zero; milli = 0; b0 = 20; b1 = 21; b2 = 22; b3 = 23; rail = 24; rounds = 43; passes = 2 }
 unfolding decided
 at_step_2 = refl

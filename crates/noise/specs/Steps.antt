@@ -1,28 +1,42 @@
 -- What only the code's steps need: a verdict, a call that nothing refuses, and what stands in the work slices before they are
 -- cleared.
-use Rattle.std.specs.Prelude.{◌≡◌, cond, List, ℕ, ◌*◌, ◌≤◌, eqb, length, ℤ, Float}
+use Rattle.std.specs.Prelude.{◌≡◌, refl, Bool, true, false, cond, List, ℕ, ◌*◌, ◌≤◌, length, ℤ, Float, Result, Ok, Err}
+use Rattle.numbers.specs.declared.Number.{Number}
+use Rattle.numbers.specs.declared.Number.TheVariants.{SideAbove, OtherLength, SideBelow, ShortSlice}
+use Rattle.numbers.specs.Numbers.{number_in}
+use Rattle.limits.specs.Limits.{too_large, other_length, too_small}
 use Rattle.grid.specs.Grid.{Sides}
 use Rattle.grid.specs.Needed.{first_w, second_w, needed_of}
 use Rattle.measure.specs.Figures.{figures_of}
 use Rattle.measure.specs.Columns.{columns_in}
 use Rattle.sample.specs.Laid.{laid_in}
 use Rattle.pass.specs.Memory.{ints_for, floats_for}
-use Rattle.noise.specs.declared.Verdict.{Verdict}
-use Rattle.noise.specs.Refusals.{short_of, refusal_of}
+use Rattle.noise.specs.Refusals.{short_of, first_of, refusal_of}
 use Rattle.noise.specs.Call.{one_runs}
 
--- a refusal's number, or M
-abbrev pub verdict_against : ℕ → Verdict
-verdict_against number = record { number = number; windows = 0 }
+-- M, or the first cause that applies
+unfoldable pub verdict_of : ℕ → ℕ → ℕ → ℕ → ℕ → Result ℕ Number
+verdict_of pixels w h ints floats =
+    cond (too_large w h) (Err SideAbove)
+    (cond (other_length pixels w h) (Err OtherLength)
+    (cond (too_small w h) (Err SideBelow)
+    (cond (short_of w h ints floats) (Err ShortSlice) (Ok (needed_of w h)))))
 
-abbrev pub verdict_for : ℕ → Verdict
-verdict_for m = record { number = 0; windows = m }
-
-abbrev pub verdict_by : ℕ → ℕ → Verdict
-verdict_by number m = cond (eqb number 0) (verdict_for m) (verdict_against number)
-
-unfoldable pub verdict_of : ℕ → ℕ → ℕ → ℕ → ℕ → Verdict
-verdict_of pixels w h ints floats = verdict_by (refusal_of pixels w h (short_of w h ints floats)) (needed_of w h)
+-- whose number is that of the refusal
+pub verdict_number : (pixels w h ints floats : ℕ)
+    → number_in (verdict_of pixels w h ints floats) ≡ refusal_of pixels w h (short_of w h ints floats)
+unfolding verdict_of refusal_of
+verdict_number pixels w h ints floats = by_case (too_large w h) (other_length pixels w h) (too_small w h) (short_of w h ints floats)
+  where
+    by_case : (large other small short : Bool)
+        → number_in {A = ℕ} (cond large (Err SideAbove)
+        (cond other (Err OtherLength) (cond small (Err SideBelow) (cond short (Err ShortSlice) (Ok (needed_of w h))))))
+        ≡ first_of (cond large 1 (cond other 2 0)) small short
+    by_case true other small short = refl
+    by_case false true small short = refl
+    by_case false false true short = refl
+    by_case false false false true = refl
+    by_case false false false false = refl
 
 -- a call that nothing refuses, M being m
 pub record Ready (img : List ℕ) (w h m : ℕ) (ints : List ℤ) (floats : List Float) : Type 0 where

@@ -2,83 +2,61 @@
 #![tactic(auto)]
 
 ghost use Rattle.std.specs.Prelude.{◌≡◌, length};
+ghost use Rattle.numbers.specs.Numbers.{number_of};
 ghost use Rattle.noise.specs.Refusals.{short_of};
-ghost use Rattle.noise.specs.Answers.{ending_in};
+ghost use Rattle.noise.specs.Answers.{ending_in, first_decides};
 ghost use Rattle.noise.specs.Call.{refused, measured, cleared_ints, cleared_floats, noise_of, left_ints, left_floats};
-ghost use Rattle.noise.specs.Steps.{verdict_against, verdict_of, Ready, work_ints, work_floats};
+ghost use Rattle.noise.specs.Steps.{verdict_of, Ready, work_ints, work_floats};
 
 use answer::Answer;
+use grid::Grid;
+use numbers::Number;
 use pass::Pass;
 
-// Why a call is refused, 0 where it is not; then M, the windows that memory is needed for.
-#[derive(Drop)]
-pub struct Verdict {
-    pub number: u32,
-    pub windows: usize,
-}
-
-fn against(number: u32) -> Verdict
-    ensures { result ≡ verdict_against number }
-{
-    Verdict {
-        number: number,
-        windows: 0,
-    }
-}
-
-// The first cause that applies to an image of w by h with so many pixels and work slices so long.
-pub fn judge(pixels: usize, w: usize, h: usize, ints: usize, floats: usize) -> Verdict
+// M, the windows that memory is needed for, or the first cause that applies to an image of w by h with so many pixels and work
+// slices so long. No type holds the five, which are as C lends them: this call finds out what they are.
+pub fn judge(pixels: usize, w: usize, h: usize, ints: usize, floats: usize) -> Result<usize, Number>
     ensures { result ≡ verdict_of pixels w h ints floats }
 {
-    let image = limits::judge(pixels, w, h);
-    if image != 0 {
-        return against(image);
-    }
+    limits::judge(pixels, w, h)?;
     if limits::too_small(w, h) {
-        return against(3);
+        return Err(Number::SideBelow);
     }
     let m = grid::needed(w, h);
-    if ints < sample::COLUMNS * m {
-        return against(4);
+    if ints < sample::COLUMNS * m || floats < 2 * m + 2 {
+        return Err(Number::ShortSlice);
     }
-    if floats < 2 * m + 2 {
-        return against(4);
-    }
-    Verdict {
-        number: 0,
-        windows: m,
-    }
+    Ok(m)
 }
 
 // The answer that ends in pass p.
 fn ending_in(p: Pass, rounds: u32, passes: u32) -> Answer
     ensures { result ≡ ending_in p rounds passes }
 {
-    let thousandths = if p.number == 0 {
-        milli::milli(p.sigma)
-    } else {
-        0
+    let (number, sigma, milli) = match p.sigma {
+        Ok(sigma) => (0, sigma, milli::milli(sigma)),
+        Err(why) => (u32::from(why), 0.0, 0),
     };
     Answer {
-        number: p.number,
-        sigma: p.sigma,
-        milli: thousandths,
+        number,
+        sigma,
+        milli,
         b0: p.b0,
         b1: p.b1,
         b2: p.b2,
         b3: p.b3,
         rail: p.rail,
-        rounds: rounds,
-        passes: passes,
+        rounds,
+        passes,
     }
 }
 
 // A refused call's answer: zeros beside the number.
-pub fn refuse(number: u32) -> Answer
-    ensures { result ≡ refused number }
+pub fn refuse(why: Number) -> Answer
+    ensures { result ≡ refused (number_of why) }
 {
     Answer {
-        number: number,
+        number: u32::from(why),
         sigma: 0.0,
         milli: 0,
         b0: 0,
@@ -91,6 +69,13 @@ pub fn refuse(number: u32) -> Answer
     }
 }
 
+// Whether the first pass, of step s, decides: it has a sigma, or no window was left out.
+fn first_decides(s: usize, p: Pass) -> bool
+    ensures { result ≡ first_decides s p }
+{
+    p.sigma.is_ok() || s == 1
+}
+
 // The first pass, and the second where the first gives no sigma and leaves windows out.
 fn passes(img: &[u8], w: usize, h: usize, ints: &mut [i32], floats: &mut [f32], m: usize) -> Answer
     requires { Ready img.now w h m ints.old floats.old }
@@ -98,14 +83,21 @@ fn passes(img: &[u8], w: usize, h: usize, ints: &mut [i32], floats: &mut [f32], 
         × (ints.new ≡ work_ints img.now w h ints.old)
         × (floats.new ≡ work_floats img.now w h floats.old) }
 {
-    let first = pass::run(img, w, h, grid::WINDOWS, ints, floats);
-    if first.number == 0 {
+    let grid = Grid {
+        w,
+        h,
+        windows: grid::WINDOWS,
+    };
+    let first = pass::run(img, grid, ints, floats);
+    if first_decides(grid.step(), first) {
         return ending_in(first, first.rounds, 1);
     }
-    if grid::step(w, h, grid::WINDOWS) == 1 {
-        return ending_in(first, first.rounds, 1);
-    }
-    let second = pass::run(img, w, h, grid::DENSE, ints, floats);
+    let dense = Grid {
+        w,
+        h,
+        windows: grid::DENSE,
+    };
+    let second = pass::run(img, dense, ints, floats);
     ending_in(second, first.rounds + second.rounds, 2)
 }
 
@@ -124,8 +116,8 @@ pub fn measure(
         × (floats.new ≡ cleared_floats m floats.old) }
 {
     let answer = passes(img, w, h, ints, floats, m);
-    clear::clear_ints(ints, sample::COLUMNS * m);
-    clear::clear_floats(floats, 2 * m + 2);
+    clear::clear(ints, sample::COLUMNS * m, 0);
+    clear::clear(floats, 2 * m + 2, 0.0);
     answer
 }
 
@@ -143,11 +135,8 @@ pub fn estimate_noise_sigma_u8(
         × (ints.new ≡ left_ints result.number w h ints.old)
         × (floats.new ≡ left_floats result.number w h floats.old) }
 {
-    let verdict = judge(img.len(), w, h, ints.len(), floats.len());
-    let number = verdict.number;
-    let m = verdict.windows;
-    if number != 0 {
-        return refuse(number);
+    match judge(img.len(), w, h, ints.len(), floats.len()) {
+        Ok(m) => measure(img, w, h, ints, floats, m),
+        Err(why) => refuse(why),
     }
-    measure(img, w, h, ints, floats, m)
 }

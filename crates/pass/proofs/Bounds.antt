@@ -4,10 +4,6 @@ use mathlib.Core.List.{List}
 use Prim.Native.Nat.{ℕ, ◌*◌, ◌≤◌}
 use native.Mathlib.Omega.{arith}
 use native.Mathlib.Nat.{le_trans}
-use lib.Dec.{ltb}
-use lib.ListN.{length}
-use lib.Ieee.{Float}
-use Rattle.laws.proofs.Choice.{cond_both}
 use Rattle.window.specs.declared.WindowStats.{WindowStats}
 use Rattle.grid.specs.Grid.{Sides}
 use Rattle.grid.proofs.Places.{total_most}
@@ -18,28 +14,10 @@ use Rattle.sample.specs.Laid.{gates_of, squares_of}
 use Rattle.band.specs.declared.Sample.{Sample}
 use Rattle.band.proofs.Counting.{counts, count_most}
 use Rattle.sample.proofs.Parts.{figures_long}
-use Rattle.rounds.specs.Rounds.{band, image_variance}
-use Rattle.rounds.specs.declared.Settled.{Settled}
-use Rattle.rounds.proofs.Bounds.{image_rounds, variance_rounds}
-use Rattle.joining.specs.Joining.{min_samples, noise, noise_under}
 use Rattle.joining.specs.declared.Noise.{Noise}
-use Rattle.joining.specs.declared.Sigma.TheVariants.{Number}
+use Rattle.joining.proofs.Reasons.{noise_rounds}
 use Rattle.pass.specs.Pass.{starts_by, noise_in, pass_of}
 use Rattle.pass.specs.Steps.{Small}
-
--- the image's rounds and the four bands', at most 12 each
-under_most : (g o : List Float) (starts : List ℕ) (image : Settled) → image.rounds ≤ 12 → (noise_under g o starts image).rounds ≤ 60
-unfolding noise_under
-under_most g o starts image h = omega (arith, one 0, one 1, one 2, one 3)
-  where
-    one : (b : ℕ) → (Rattle.rounds.specs.Rounds.band_variance (band g starts b) (band o starts b) image.var).rounds ≤ 12
-    one b = variance_rounds (band g starts b) (band o starts b) image.var
-
-noise_rounds : (g o : List Float) (starts : List ℕ) → (noise g o starts).rounds ≤ 60
-unfolding noise
-noise_rounds g o starts =
-    cond_both (λ (n : Noise). n.rounds ≤ 60) (ltb (length g) min_samples) (record { sigma = Number 5; rounds = 0 }) (noise_under g o starts (image_variance g o starts))
-    (omega arith) (under_most g o starts (image_variance g o starts) (image_rounds g o starts))
 
 pub rounds_most : (fs : List WindowStats) → (pass_of fs).rounds ≤ 60
 unfolding pass_of

@@ -1,9 +1,8 @@
 -- Where the bands start, what a pass tells of its sample and its noise, and how much memory its windows take.
-use Rattle.std.specs.Prelude.{◌≡◌, refl, [], ◌∷◌}
-use Rattle.std.specs.Float.Ieee.{of_bits}
-use Rattle.ieee.specs.Numbers.{plus_zero, f32_of}
+use Rattle.std.specs.Prelude.{◌≡◌, refl, [], ◌∷◌, Ok, Err}
+use Rattle.ieee.specs.Numbers.{f32_of}
 use Rattle.band.specs.declared.Sample.{Sample}
-use Rattle.joining.specs.declared.Sigma.TheVariants.{Figure, Number}
+use Rattle.numbers.specs.declared.Number.TheVariants.{Thin}
 use Rattle.pass.specs.Memory.{ints_for, floats_for}
 use Rattle.pass.specs.Pass.{starts_by, packed}
 
@@ -13,13 +12,12 @@ s = record { b0 = 1; b1 = 20; b2 = 300; b3 = 4000; rail = 5 }
 pub starts : starts_by s ≡ 0 ∷ 1 ∷ 21 ∷ 321 ∷ 4321 ∷ []
 starts = refl
 
-pub figure_told : packed s (record { sigma = Figure (f32_of 2); rounds = 9 })
-    ≡ record { number = 0; sigma = f32_of 2; rounds = 9; b0 = 1; b1 = 20; b2 = 300; b3 = 4000; rail = 5 }
+pub figure_told : packed s (record { sigma = Ok (f32_of 2); rounds = 9 })
+    ≡ record { sigma = Ok (f32_of 2); rounds = 9; b0 = 1; b1 = 20; b2 = 300; b3 = 4000; rail = 5 }
 figure_told = refl
 
-pub number_told : packed s (record { sigma = Number 7; rounds = 9 })
-    ≡ record { number = 7; sigma = plus_zero; rounds = 9; b0 = 1; b1 = 20; b2 = 300; b3 = 4000; rail = 5 }
-unfolding of_bits
+pub number_told : packed s (record { sigma = Err Thin; rounds = 9 })
+    ≡ record { sigma = Err Thin; rounds = 9; b0 = 1; b1 = 20; b2 = 300; b3 = 4000; rail = 5 }
 number_told = refl
 
 -- 3M and 2M + 2

@@ -1,5 +1,5 @@
 -- One pass, from the figures of its windows alone: document 01, "Bands", "Rounds" and "Joining".
-use Rattle.std.specs.Prelude.{List, [], ◌∷◌, ℕ, ◌+◌, length}
+use Rattle.std.specs.Prelude.{List, [], ◌∷◌, ℕ, ◌+◌, length, Option}
 use Rattle.window.specs.declared.WindowStats.{WindowStats}
 use Rattle.band.specs.Bands.{sample_of}
 use Rattle.sample.specs.Laid.{gates_of, squares_of}
@@ -7,7 +7,7 @@ use Rattle.band.specs.declared.Sample.{Sample}
 use Rattle.rounds.specs.Rounds.{image_variance}
 use Rattle.rounds.specs.declared.Settled.{Settled}
 use Rattle.rounds.specs.declared.Found.{Found}
-use Rattle.joining.specs.Joining.{variances, joined_bands, founds, noise, number_of, figure_of}
+use Rattle.joining.specs.Joining.{variances, joined_bands, founds, noise}
 use Rattle.joining.specs.declared.Noise.{Noise}
 use Rattle.pass.specs.declared.Pass.{Pass}
 
@@ -23,12 +23,11 @@ starts_by s = 0 ∷ s.b0 ∷ (s.b0 + s.b1) ∷ (s.b0 + s.b1 + s.b2) ∷ kept_by 
 abbrev pub noise_in : List WindowStats → Noise
 noise_in fs = noise (gates_of fs) (squares_of fs) (starts_by (sample_of fs))
 
--- counts and noise as one record; sigma is zero unless the number is 0
+-- counts and noise as one record
 abbrev pub packed : Sample → Noise → Pass
 packed s n =
     record {
-      number = number_of n.sigma;
-      sigma = figure_of n.sigma;
+      sigma = n.sigma;
       rounds = n.rounds;
       b0 = s.b0;
       b1 = s.b1;
@@ -48,7 +47,7 @@ abbrev pub image_in : List WindowStats → Settled
 image_in fs = image_variance (gates_of fs) (squares_of fs) (starts_by (sample_of fs))
 
 -- the variances that its bands have or lack
-abbrev pub founds_in : List WindowStats → List Found
+abbrev pub founds_in : List WindowStats → List (Option Found)
 founds_in fs = founds (gates_of fs) (squares_of fs) (starts_by (sample_of fs)) (image_in fs).var
 
 -- how many bands have one, and how many windows those that are joined hold

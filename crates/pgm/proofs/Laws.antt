@@ -7,9 +7,11 @@ use native.Mathlib.Omega.{arith}
 use lib.ListN.{length, take, length-append}
 use lib.Seq.{drop-append_seam}
 use Rattle.text.specs.Numerals.{places, decimal_of}
-use Rattle.pgm.specs.declared.Pgm.TheVariants.{Image, Refused}
+use Rattle.std.specs.Prelude.{Err}
+use Rattle.numbers.specs.declared.Number.{Number}
+use Rattle.numbers.specs.declared.Number.TheVariants.{PgmHeader, PgmMaximum, PgmRaster}
 use Rattle.pgm.specs.Grammar.{White, Numeral, number_in, Headed}
-use Rattle.pgm.specs.Read.{split, head_of, header_bytes, pgm_judged, front_read, read_of, raster_by, raster_of}
+use Rattle.pgm.specs.Read.{split, image_at, head_of, header_bytes, pgm_judged, front_read, read_of, raster_by, raster_of}
 use Rattle.pgm.specs.File.{header_for, ImageFile}
 use Rattle.pgm.proofs.Splitting.{test_numeral, header_read, prefix}
 use Rattle.pgm.proofs.Decimal.{value_least, value_most, numeral_decimal, decimal_numeral}
@@ -30,12 +32,12 @@ length_split {raster = raster} s = let p = prefix s in omega (arith, ap length p
 
 module _ (file : List ℕ) where
   -- 20: no header stands at the front, however the file is split
-  pub is_20 : (read_of file ≡ Refused 20) ↔ ((w h m : ℕ) (raster : List ℕ) → Headed file w h m raster → ⊥)
+  pub is_20 : (read_of file ≡ Err PgmHeader) ↔ ((w h m : ℕ) (raster : List ℕ) → Headed file w h m raster → ⊥)
   unfolding read_of front_read
   is_20 = (λ e. (head_missing file).0 (of_20 (length file) (head_of file) e), λ f. ap (pgm_judged (length file)) ((head_missing file).1 f))
 
   -- 21: one does, and its maximum is not 255
-  pub is_21 : (read_of file ≡ Refused 21) ↔ ((w : ℕ) × (h : ℕ) × (m : ℕ) × (raster : List ℕ) × Headed file w h m raster × (m ≡ 255 → ⊥))
+  pub is_21 : (read_of file ≡ Err PgmMaximum) ↔ ((w : ℕ) × (h : ℕ) × (m : ℕ) × (raster : List ℕ) × Headed file w h m raster × (m ≡ 255 → ⊥))
   unfolding read_of front_read
   is_21 = (
     λ e.
@@ -46,7 +48,7 @@ module _ (file : List ℕ) where
   )
 
   -- 22: one does, its maximum is 255, and the raster is not w × h bytes
-  pub is_22 : (read_of file ≡ Refused 22) ↔ ((w : ℕ) × (h : ℕ) × (raster : List ℕ) × Headed file w h 255 raster × (length raster ≡ w * h → ⊥))
+  pub is_22 : (read_of file ≡ Err PgmRaster) ↔ ((w : ℕ) × (h : ℕ) × (raster : List ℕ) × Headed file w h 255 raster × (length raster ≡ w * h → ⊥))
   unfolding read_of front_read
   is_22 = (
     λ e.
@@ -57,9 +59,9 @@ module _ (file : List ℕ) where
   )
 
   -- no other number comes out
-  pub no_other : (n : ℕ) → read_of file ≡ Refused n → (n ≡ 20) ⊎ ((n ≡ 21) ⊎ (n ≡ 22))
+  pub no_other : (why : Number) → read_of file ≡ Err why → (why ≡ PgmHeader) ⊎ ((why ≡ PgmMaximum) ⊎ (why ≡ PgmRaster))
   unfolding read_of front_read
-  no_other n e = of_number (length file) (head_of file) n e
+  no_other why e = of_number (length file) (head_of file) why e
 
   -- as many first bytes as the longest header has, and the length, decide
   pub front_decides : (n : ℕ) → header_bytes ≤ n → front_read (take n file) (length file) ≡ read_of file
@@ -67,7 +69,7 @@ module _ (file : List ℕ) where
   front_decides n enough = ap (pgm_judged (length file)) (head_front file n enough)
 
 -- the split behind an image
-pub image_headed : (file : List ℕ) (w h start : ℕ) → read_of file ≡ Image w h start → Behind file w h 255 start
+pub image_headed : (file : List ℕ) (w h start : ℕ) → read_of file ≡ image_at w h start → Behind file w h 255 start
 unfolding read_of front_read
 image_headed file w h start e = head_stands file w h 255 start (of_image (length file) (head_of file) w h start e).0
 
@@ -87,14 +89,14 @@ joined a b c d width height raster =
     (append_assoc width (b ∷ (height ++ c ∷ 50 ∷ 53 ∷ 53 ∷ d ∷ [])) raster ∙ ap (λ (l : List ℕ). width ++ b ∷ l) (append_assoc height (c ∷ 50 ∷ 53 ∷ 53 ∷ d ∷ []) raster))
 
 -- an image is read from exactly the files that are written so
-pub is_image_lem : (file : List ℕ) (w h start : ℕ) → (read_of file ≡ Image w h start) ↔ ImageFile file w h start
+pub is_image_lem : (file : List ℕ) (w h start : ℕ) → (read_of file ≡ image_at w h start) ↔ ImageFile file w h start
 unfolding read_of front_read
 is_image_lem file w h start = (reads, written)
   where
-    written : ImageFile file w h start → read_of file ≡ Image w h start
+    written : ImageFile file w h start → read_of file ≡ image_at w h start
     written f =
         sym (whole file (length file) w h 255 (length file - length f.raster) (sym (head_read headed)) refl (omega (arith, length_split headed, f.area)))
-        ∙ ap (Image w h) (omega (arith, f.place, ap length f.whole, length-append (header_for f.a f.b f.c f.d w h) f.raster))
+        ∙ ap (image_at w h) (omega (arith, f.place, ap length f.whole, length-append (header_for f.a f.b f.c f.d w h) f.raster))
       where
         headed : Headed file w h 255 f.raster
         headed =
@@ -114,7 +116,7 @@ is_image_lem file w h start = (reads, written)
               whole = f.whole ∙ joined f.a f.b f.c f.d (decimal_of w) (decimal_of h) f.raster;
             }
 
-    reads : read_of file ≡ Image w h start → ImageFile file w h start
+    reads : read_of file ≡ image_at w h start → ImageFile file w h start
     reads e =
         let i = of_image (length file) (head_of file) w h start e in
         let b = head_stands file w h 255 start i.0 in
@@ -153,7 +155,7 @@ is_image_lem file w h start = (reads, written)
 
 -- every image that can be written is read back, and its raster is the part that was written
 module _ (a b c d w h : ℕ) (raster : List ℕ) (whites : White a × White b × White c × White d) (sides : (1 ≤ w) × (w ≤ 99999) × (1 ≤ h) × (h ≤ 99999)) (area : length raster ≡ w * h) where
-  pub written_read : read_of (header_for a b c d w h ++ raster) ≡ Image w h (length (header_for a b c d w h))
+  pub written_read : read_of (header_for a b c d w h ++ raster) ≡ image_at w h (length (header_for a b c d w h))
   written_read =
       (is_image_lem (header_for a b c d w h ++ raster) w h (length (header_for a b c d w h))).1
       (record { a = a; b = b; c = c; d = d; whites = whites; sides = sides; raster = raster; area = area; whole = refl; place = refl })

@@ -7,10 +7,9 @@ use native.Mathlib.Omega.{arith}
 use lib.Dec.{eqb}
 use lib.ListN.{length, get_or, drop, length-drop}
 use Rattle.pgm.specs.declared.Found.{Found}
-use Rattle.pgm.specs.declared.Found.TheVariants.{Number}
-use Rattle.pgm.specs.declared.Head.TheVariants.{Numbers, Missing}
-use Rattle.pgm.specs.Read.{Opening, split, none, is_white, take_byte, take_white, take_number, take_field, header_of, head_by, head_of}
-use Rattle.pgm.specs.Found.{is_marked, onward, InFile}
+use Rattle.std.specs.Prelude.{Option, Some, None}
+use Rattle.pgm.specs.Read.{Opening, split, none, header_at, is_white, take_byte, take_white, take_number, take_field, header_of, head_by, head_of}
+use Rattle.pgm.specs.Found.{is_marked, onward}
 use Rattle.pgm.proofs.Runs.{passed_within, next, at_front}
 
 pub white_in_file : (file : List ℕ) (k : ℕ) → is_white (get_or file k 0) ≡ true → k < length file
@@ -32,10 +31,13 @@ Goes file at n after = (go : ℕ → List ℕ → Opening) → take_field (drop 
 abbrev pub Lost : List ℕ → ℕ → Type 0
 Lost file at = (go : ℕ → List ℕ → Opening) → take_field (drop at file) go ≡ none
 
-module _ (file : List ℕ) (at : ℕ) (found : Found) (goes_on : (go : ℕ → List ℕ → Opening) → take_number (drop at file) go ≡ onward file found go) (in-it : InFile file found) where
-  module _ (n end : ℕ) (e : found ≡ Number n end) where
+module _ (file : List ℕ) (at : ℕ) (found : Option Found) (goes_on : (go : ℕ → List ℕ → Opening) → take_number (drop at file) go ≡ onward file found go) where
+  pub no_number : found ≡ None → Lost file at
+  no_number e go = goes_on (λ n l. take_white l (go n)) ∙ ap (λ (f : Option Found). onward file f (λ n l. take_white l (go n))) e
+
+  module _ (n end : ℕ) (e : found ≡ Some (record { number = n; end = end })) where
     to_end : (go : ℕ → List ℕ → Opening) → take_field (drop at file) go ≡ take_white (drop end file) (go n)
-    to_end go = goes_on (λ n l. take_white l (go n)) ∙ ap (λ (f : Found). onward file f (λ n l. take_white l (go n))) e
+    to_end go = goes_on (λ n l. take_white l (go n)) ∙ ap (λ (f : Option Found). onward file f (λ n l. take_white l (go n))) e
 
     pub field_goes : is_white (get_or file end 0) ≡ true → Goes file at n (end + 1) × (end + 1 ≤ length file)
     field_goes w = (
@@ -43,8 +45,8 @@ module _ (file : List ℕ) (at : ℕ) (found : Found) (goes_on : (go : ℕ → L
       omega (arith, white_in_file file end w),
     )
 
-    pub field_ends : is_white (get_or file end 0) ≡ false → Lost file at × Unit {0}
-    field_ends w = (λ go. to_end go ∙ white_off (drop end file) (go n) (ap is_white (at_front file end) ∙ w), tt)
+    pub field_ends : is_white (get_or file end 0) ≡ false → Lost file at
+    field_ends w go = to_end go ∙ white_off (drop end file) (go n) (ap is_white (at_front file end) ∙ w)
 
 -- the mark
 three : (p q r : Bool) (x : Opening) → cond p (cond q (cond r x none) none) none ≡ cond (p && (q && r)) x none
@@ -89,10 +91,10 @@ module _ (file : List ℕ) where
     pub has_header : (w a h b m s : ℕ) → Goes file 3 w a → Goes file a h b → Goes file b m s → header_of file ≡ split w h m (drop s file)
     has_header w a h b m s f g i = by_mark true e ∙ f from_width ∙ g (from_height w) ∙ i (from_maximum w h)
 
-  pub head_missing : header_of file ≡ none → Missing ≡ head_of file
+  pub head_missing : header_of file ≡ none → None ≡ head_of file
   unfolding head_of
   head_missing e = sym (ap (head_by file) e)
 
-  pub head_numbers : (w h m s : ℕ) → header_of file ≡ split w h m (drop s file) → s ≤ length file → Numbers w h m s ≡ head_of file
+  pub head_numbers : (w h m s : ℕ) → header_of file ≡ split w h m (drop s file) → s ≤ length file → header_at w h m s ≡ head_of file
   unfolding head_of
-  head_numbers w h m s e i = sym (ap (head_by file) e ∙ ap (Numbers w h m) (omega (arith, length-drop s file)))
+  head_numbers w h m s e i = sym (ap (head_by file) e ∙ ap (header_at w h m) (omega (arith, length-drop s file)))

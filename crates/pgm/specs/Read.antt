@@ -1,10 +1,10 @@
 -- The reading of a file, from its front to its raster. Each part takes the bytes that are left and what goes on after it.
-use Rattle.std.specs.Prelude.{ℕ, ◌+◌, ◌*◌, ◌-◌, Bool, cond, not, ◌&&◌, ◌||◌, List, [], ◌∷◌, leb, eqb, length, get_or, drop}
+use Rattle.std.specs.Prelude.{Option, Some, None, Result, Ok, Err, ℕ, ◌+◌, ◌*◌, ◌-◌, Bool, cond, not, ◌&&◌, ◌||◌, List, [], ◌∷◌, leb, eqb, length, get_or, drop}
 use Rattle.pgm.specs.Grammar.{number_in}
+use Rattle.numbers.specs.declared.Number.{Number}
+use Rattle.numbers.specs.declared.Number.TheVariants.{PgmHeader, PgmMaximum, PgmRaster}
 use Rattle.pgm.specs.declared.Head.{Head}
-use Rattle.pgm.specs.declared.Head.TheVariants.{Numbers, Missing}
-use Rattle.pgm.specs.declared.Pgm.{Pgm}
-use Rattle.pgm.specs.declared.Pgm.TheVariants.{Image, Refused}
+use Rattle.pgm.specs.declared.Image.{Image}
 
 -- how a file opens: with a header's width, height and maximum, and then the bytes after it; or with no header
 pub data Opening : Type 0 where
@@ -50,39 +50,47 @@ take_field l go = take_number l λ n l. take_white l (go n)
 unfoldable pub header_of : List ℕ → Opening
 header_of file = take_byte 80 file λ l. take_byte 53 l λ l. take_white l λ l. take_field l λ w l. take_field l λ h l. take_field l λ m raster. split w h m raster
 
--- the header at a file's front by its numbers and the place after it
-abbrev pub head_by : List ℕ → Opening → Head
-head_by file (split w h m left) = Numbers w h m (length file - length left)
-head_by file none = Missing
+-- a header's width, height and maximum, and the place after it
+abbrev pub header_at : ℕ → ℕ → ℕ → ℕ → Option Head
+header_at w h m start = Some (record { width = w; height = h; maximum = m; start = start })
 
-unfoldable pub head_of : List ℕ → Head
+-- the header at a file's front by its numbers and the place after it
+abbrev pub head_by : List ℕ → Opening → Option Head
+head_by file (split w h m left) = header_at w h m (length file - length left)
+head_by file none = None
+
+unfoldable pub head_of : List ℕ → Option Head
 head_of file = head_by file (header_of file)
 
 -- the longest header: `P5`, four whitespace bytes, three times five digits
 abbrev pub header_bytes : ℕ
 header_bytes = 2 + 4 + 3 * 5
 
+-- an image by its sides and its raster's first place
+abbrev pub image_at : ℕ → ℕ → ℕ → Result Image Number
+image_at w h start = Ok (record { width = w; height = h; start = start })
+
 -- a file of `len` bytes by its header: 20 where there is none, 21 where the maximum is not 255, 22 where the raster, all that follows
 -- the header, is not w × h bytes: the first that applies
-abbrev pub pgm_judged : ℕ → Head → Pgm
-pgm_judged len Missing = Refused 20
-pgm_judged len (Numbers w h m start) =
-    cond (not (eqb m 255)) (Refused 21)
-    (cond (not (eqb len (start + w * h))) (Refused 22)
-    (Image w h start))
+abbrev pub pgm_judged : ℕ → Option Head → Result Image Number
+pgm_judged len None = Err PgmHeader
+pgm_judged len (Some head) =
+    cond (not (eqb head.maximum 255)) (Err PgmMaximum)
+    (cond (not (eqb len (head.start + head.width * head.height))) (Err PgmRaster)
+    (image_at head.width head.height head.start))
 
 -- by its first bytes, as far as they reach
-unfoldable pub front_read : List ℕ → ℕ → Pgm
+unfoldable pub front_read : List ℕ → ℕ → Result Image Number
 front_read front len = pgm_judged len (head_of front)
 
 -- a whole file
-unfoldable pub read_of : List ℕ → Pgm
+unfoldable pub read_of : List ℕ → Result Image Number
 read_of file = front_read file (length file)
 
 -- the raster of a file that is read, and nothing of one that is refused
-abbrev pub raster_by : List ℕ → Pgm → List ℕ
-raster_by file (Image w h start) = drop start file
-raster_by file (Refused n) = []
+abbrev pub raster_by : List ℕ → Result Image Number → List ℕ
+raster_by file (Ok image) = drop image.start file
+raster_by file (Err why) = []
 
 unfoldable pub raster_of : List ℕ → List ℕ
 raster_of file = raster_by file (read_of file)

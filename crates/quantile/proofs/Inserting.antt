@@ -6,10 +6,14 @@ use mathlib.Core.Logic.{inl, inr}
 use Prim.Native.Nat.{ℕ, zero, suc, ◌+◌, ◌-◌, ◌*◌, ◌/◌, ◌≤◌, ◌<◌, min}
 use native.Mathlib.Omega.{arith}
 use native.Mathlib.Numerals.{add-one}
-use native.Mathlib.Nat.{le_antisymm, le-div_iff_mul-le, div-lt_iff_lt-mul}
-use lib.ListN.{length, set, take, length-set, length-take, replicate, length-replicate, get_or-replicate, get_or-eq_default}
-use lib.Seq.{get_or-set_same, get_or-set_other, get_or-take, ext_get_or}
-use lib.Ieee.{Float, nan, Format, binary32, binary64, of_bits, div, is_nan}
+use native.Mathlib.Nat.{le_antisymm, le-div_iff_mul-le, div-lt_iff_lt-mul, lt_of_mul-lt-mul_right}
+use lib.ListN.{length, get_or, set, take, length-set, length-take, replicate, length-replicate, get_or-replicate, get_or-eq_default}
+use lib.Seq.{get_or-set_same, get_or-set_other, get_or-take, length-take-le, ext_get_or}
+use Rattle.std.proofs.Common.{map}
+use Rattle.std.proofs.lemmas.List.{get_or-map, map-id}
+use Rattle.std.proofs.lemmas.Grind.{div_ceil_times}
+use Rattle.std.specs.Int.{div_ceil}
+use lib.Ieee.{Float, nan, binary32, binary64, of_bits, is_nan}
 use Rattle.ieee.specs.Order.{total_less}
 use Rattle.laws.proofs.Choice.{chosen, passed}
 use Rattle.quantile.specs.Rising.{at, inserted, rising, Rises}
@@ -56,7 +60,18 @@ first_of N v old new R e g h =
         go : (k : ℕ) → k ≡ suc (length old) → min N k ≡ N
         go k q = omega arith
 
+-- a list by the floats that its elements are
+pub at_map : {A : Type 0} (f : A → Float) (l : List A) (i : ℕ) (d : A) → i < length l → at (map f l) i ≡ f (get_or l i d)
+at_map f l i d h = get_or-map f l i d nan h
+
 module _ (N : ℕ) (old : List Float) (v : Float) (R : Rises old) (g : length old ≡ N) where
+  pub slide_start : (j : ℕ) → suc j ≡ N → total_less v (at old j) ≡ true → Sliding N old v j old
+  slide_start j e h =
+      record { low = omega arith; long = g; above = h; done = λ i p q. absurd (past j i e p q); todo = λ i p. refl }
+    where
+      past : (j i : ℕ) → suc j ≡ N → j < i → i < N → ⊥
+      past j i e p q = omega arith
+
   pub slide_none : (j : ℕ) → suc j ≡ N → total_less v (at old j) ≡ false → old ≡ take N (inserted v old)
   slide_none j e h = first_of N v old old R g g (λ i k. stays v old R j h i (omega arith))
 
@@ -81,6 +96,35 @@ module _ (N : ℕ) (old : List Float) (v : Float) (R : Rises old) (g : length ol
     -- v itself goes to place j, which it is the first to be above
     lowest : v ≡ first v (at old j)
     lowest = chosen (total_less v (at old j)) v (at old j) s.above
+
+    -- the number before place j moves up to it
+    pub slide_more : 0 < j → {x : Float} → x ≡ at new (j - 1) → total_less v x ≡ true → Sliding N old v (j - 1) (set new j x)
+    slide_more h {x} e t =
+        record {
+          low = omega (arith, s.low);
+          long = length-set new j x ∙ s.long;
+          above = high;
+          done = λ i p q. elim (trichotomy i j) [
+            | inl l ↦ absurd (between i l p)
+            | inr (inl z) ↦ subst (λ (y : ℕ). at (set new j x) y ≡ slot v old y) (sym z) (put_same x ∙ moved)
+            | inr (inr l) ↦ put_other x i (omega arith) ∙ s.done i l q
+          ];
+          todo = λ i p. put_other x i (omega arith) ∙ s.todo i (omega arith);
+        }
+      where
+        there : x ≡ at old (j - 1)
+        there = e ∙ s.todo (j - 1) (omega arith)
+
+        high : total_less v (at old (j - 1)) ≡ true
+        high = subst (λ (y : Float). total_less v y ≡ true) there t
+
+        between : (i : ℕ) → i < j → j - 1 < i → ⊥
+        between i l p = omega arith
+
+        moved : x ≡ slot v old j
+        moved =
+            there ∙ chosen (total_less v (at old (j - 1))) (at old (j - 1)) (first v (at old (suc (j - 1)))) high
+            ∙ ap (slot v old) (one_more j h)
 
     pub slide_stop : 0 < j → {x : Float} → x ≡ at new (j - 1) → total_less v x ≡ false → set new j v ≡ take N (inserted v old)
     slide_stop h {x} e t =
@@ -117,11 +161,10 @@ pub record Held (N : ℕ) (f : ℕ → Float) (n k : ℕ) (least : List Float) :
   pub long : length least ≡ N
   pub same : (i : ℕ) → i < N → at least i ≡ at (rising f k) i
 
--- 0 / 0
-pub no_number : (f : Format) → div f (of_bits f 0) (of_bits f 0) ≡ nan
-unfolding of_bits div
-no_number binary32 = refl
-no_number binary64 = refl
+-- f32::NAN and f64::NAN
+pub no_number : (of_bits binary32 0x7FC0_0000 ≡ nan) × (of_bits binary64 0x7FF8_0000_0000_0000 ≡ nan)
+unfolding of_bits
+no_number = (refl, refl)
 
 nothing_below : (x y : Float) → x ≡ nan → total_less x y ≡ false
 unfolding total_less is_nan
@@ -157,36 +200,49 @@ module _ {N : ℕ} {f : ℕ → Float} {n k : ℕ} {least : List Float} (h : Hel
       full : (a : ℕ) → a ≡ suc N → min N a ≡ N
       full a q = omega arith
 
--- ---- quantile: n values taken, the next one at k
+-- what `insert` says of f32 and of f64, which are floats themselves
+pub insert_asks : (least : List Float) → Rises least → Rises (map (λ (x : Float). x) least)
+insert_asks least R = subst Rises (sym (map-id least)) R
 
-pub record Taken (g : List Float) (s : ℕ) (buf : List Float) (n k : ℕ) : Type 0 where
+pub insert_gives : (N : ℕ) (v : Float) (old : List Float) {new : List Float} → map (λ (x : Float). x) new ≡ take N (inserted v (map (λ (x : Float). x) old)) → new ≡ take N (inserted v old)
+insert_gives N v old {new} e = sym (map-id new) ∙ e ∙ ap (λ (l : List Float). take N (inserted v l)) (map-id old)
+
+-- ---- quantile: of len values those at multiples of s are taken
+
+-- as many as the rule takes
+counted : (len s n : ℕ) → 0 < s → len ≤ n * s → n * s < len + s → n ≡ (len + (s - 1)) / s
+counted len s n h p q =
+    le_antisymm ((le-div_iff_mul-le {k = s} {x = n} {y = len + (s - 1)} h).1 (omega arith))
+    (one_less ((len + (s - 1)) / s) ((div-lt_iff_lt-mul {k = s} {x = len + (s - 1)} {y = n + 1} h).1 (omega arith)))
+  where
+    one_less : (x : ℕ) → x < n + 1 → x ≤ n
+    one_less x h = omega arith
+
+module _ (len : ℕ) {s : ℕ} (e : s ≡ stride len) where
+  pub stride_pos : 0 < s
+  stride_pos = omega arith
+
+  module _ {n : ℕ} (d : n ≡ div_ceil len s) where
+    whole : (len ≤ n * s) × (n * s < len + s)
+    whole = subst (λ (m : ℕ). (len ≤ m * s) × (m * s < len + s)) (sym d) (div_ceil_times len s stride_pos)
+
+    pub taken_is : n ≡ (len + (s - 1)) / s
+    taken_is = counted len s n stride_pos whole.0 whole.1
+
+    -- at most 255
+    pub taken_few : n ≤ 255
+    taken_few = omega (arith, lt_of_mul-lt-mul_right s {m = n} {n = 256} (omega (arith, whole.1)))
+
+-- the first k of them stand in buf
+pub record Taken (g : List Float) (s : ℕ) (buf : List Float) (k : ℕ) : Type 0 where
   pub long : length buf ≡ 255
-  pub step : k ≡ n * s
-  pub last : k < length g + s
-  pub same : (i : ℕ) → i < n → at buf i ≡ at g (i * s)
+  pub same : (i : ℕ) → i < k → at buf i ≡ at g (i * s)
 
-module _ {g : List Float} {s : ℕ} {buf : List Float} {n k : ℕ} (t : Taken g s buf n k) (e : s ≡ stride (length g)) where
-  wide : length g ≤ 255 * s
-  wide = omega arith
-
-  -- the count is the rule's
-  count_is : length g ≤ k → n ≡ (length g + (s - 1)) / s
-  count_is h =
-      le_antisymm ((le-div_iff_mul-le {k = s} {x = n} {y = length g + (s - 1)} (omega arith)).1 (go (n * s) t.step))
-      (one_less ((length g + (s - 1)) / s) ((div-lt_iff_lt-mul {k = s} {x = length g + (s - 1)} {y = n + 1} (omega arith)).1 over))
-    where
-      go : (x : ℕ) → k ≡ x → x ≤ length g + (s - 1)
-      go x p = omega (arith, t.last)
-
-      over : length g + (s - 1) < (n + 1) * s
-      over = omega (arith, h, t.step)
-
-      one_less : (x : ℕ) → x < n + 1 → x ≤ n
-      one_less x h = omega arith
-
-  pub taken_end : length g ≤ k → {r : Float} → r ≡ at (rising (at buf) n) (n / 16) → r ≡ quiet g
-  unfolding quiet
-  taken_end h {r} q =
-      q ∙ ap (λ (l : List Float). at l (n / 16)) (rising_same (at buf) (λ (j : ℕ). at g (j * s)) n t.same)
-      ∙ ap (λ (x : ℕ). at (rising (λ (j : ℕ). at g (j * s)) x) (x / 16)) (count_is h)
-      ∙ ap (λ (x : ℕ). at (rising (λ (j : ℕ). at g (j * x)) ((length g + (x - 1)) / x)) ((length g + (x - 1)) / x / 16)) e
+pub taken_end : {g : List Float} {s : ℕ} {buf : List Float} {n k : ℕ} → Taken g s buf k → n ≤ k → s ≡ stride (length g) → n ≡ div_ceil (length g) s
+    → {r : Float} → r ≡ at (rising (at (take n buf)) (length (take n buf))) (n / 16) → r ≡ quiet g
+unfolding quiet
+taken_end {g} {s} {buf} {n} {k} t m e d {r} q =
+    q ∙ ap (λ (x : ℕ). at (rising (at (take n buf)) x) (n / 16)) (length-take-le n buf (omega (arith, t.long, taken_few (length g) e d)))
+    ∙ ap (λ (l : List Float). at l (n / 16)) (rising_same (at (take n buf)) (λ (j : ℕ). at g (j * s)) n (λ i h. get_or-take n buf i nan h ∙ t.same i (omega arith)))
+    ∙ ap (λ (x : ℕ). at (rising (λ (j : ℕ). at g (j * s)) x) (x / 16)) (taken_is (length g) e d)
+    ∙ ap (λ (x : ℕ). at (rising (λ (j : ℕ). at g (j * x)) ((length g + (x - 1)) / x)) ((length g + (x - 1)) / x / 16)) e

@@ -1,72 +1,62 @@
 // The quiet level of a band's gates, or of all: noise.rs, `quantile` at 1/16.
 #![tactic(auto)]
 
-ghost use Rattle.std.specs.Prelude.{◌≡◌, ◌+◌, ◌/◌, ◌≤◌, ◌<◌, length, take};
+ghost use Rattle.std.specs.Prelude.{◌≡◌, ◌+◌, ◌/◌, ◌≤◌, ◌<◌, length, map, take};
 ghost use Rattle.quantile.specs.Rising.{at, inserted, rising, Rises};
 ghost use Rattle.quantile.specs.Quantile.{quiet};
 ghost use Rattle.quantile.specs.Quantile as Q;
 
+use float::Real;
+
 // The value at place floor(n / 16), from 0, in rising order of the n values taken: at most 255, evenly spaced.
+// They stand in an array of 255: document 01, "The form each place needs".
 pub fn quantile(values: &[f32]) -> f32
     ensures { result ≡ quiet values.now }
 {
     let s = stride(values.len());
+    let n = values.len().div_ceil(s);
     let mut buf = [0.0f32; 255];
-    let mut n: usize = 0;
-    let mut k: usize = 0;
-    while k < values.len() {
-        let v = values[k];
-        buf[n] = v;
-        n += 1;
-        k += s;
+    for k in 0..n {
+        buf[k] = values[k * s];
     }
-    place(&buf, n, n / 16)
+    place(&buf[..n], n / 16)
 }
 
 // Every how many of len values are taken.
 fn stride(len: usize) -> usize
     ensures { result ≡ Q.stride len }
 {
-    if len == 0 {
-        return 1;
-    }
-    (len - 1) / 255 + 1
+    len.div_ceil(255).max(1)
 }
 
-// The value at place p in rising order of the first n.
-fn place(buf: &[f32; 255], n: usize, p: usize) -> f32
-    requires { (n ≤ 255) × (p < 16) }
-    ensures { result ≡ at (rising (at buf.now) n) p }
+// The value at place p in rising order.
+fn place(values: &[f32], p: usize) -> f32
+    requires { p < 16 }
+    ensures { result ≡ at (rising (at values.now) (length values.now)) p }
 {
-    let none = 0.0f32 / 0.0;
-    let mut least = [none; 16];
-    let mut k: usize = 0;
-    while k < n {
-        let v = buf[k];
-        insert(&mut least, v);
-        k += 1;
+    let mut least = [f32::NAN; 16];
+    for v in values {
+        insert(&mut least, *v);
     }
     least[p]
 }
 
-// v among the sixteen least, which stand in rising order; the last one falls out.
-fn insert(least: &mut [f32; 16], v: f32)
-    requires { Rises least.old × (length least.old ≡ 16) }
-    ensures { least.new ≡ take 16 (inserted v least.old) }
+// v among the N least, which stand in rising order; the last one falls out.
+pub fn insert<F: Real, const N: usize>(least: &mut [F; N], v: F)
+    requires some { 0 < N }
+    requires rises { Rises (map F.float least.old) }
+    ensures { map F.float least.new ≡ take N (inserted (F.float v) (map F.float least.old)) }
 {
-    let last = least[15];
-    if float::total_less32(v, last) {
-        let mut j: usize = 15;
-        while 0 < j {
-            let x = least[j - 1];
-            if float::total_less32(v, x) {
-                least[j] = x;
-                j -= 1;
-            } else {
-                least[j] = v;
-                return;
-            }
-        }
-        least[0] = v;
+    if !float::total_less(v, least[N - 1]) {
+        return;
     }
+    for j in (1..N).rev() {
+        let x = least[j - 1];
+        if !float::total_less(v, x) {
+            least[j] = v;
+            return;
+        }
+        least[j] = x;
+    }
+    least[0] = v;
 }

@@ -1,5 +1,5 @@
 -- The finite floats of f32 are those of a magnitude of at most its largest number, (2 ^ 24 - 1) * 2 ^ 104. Assumes nothing.
-use mathlib.Core.Path.{◌≡◌, ◌∙◌}
+use mathlib.Core.Path.{◌≡◌, refl, ◌∙◌}
 use mathlib.Core.Logic.{inl, inr}
 use mathlib.Core.Bool.{Bool, true, false, ◌&&◌}
 use Prim.Native.Nat.{ℕ, ◌*◌, ◌^◌, ◌≤◌, ◌<◌}
@@ -7,7 +7,7 @@ use native.Mathlib.Nat.{le_trans, le_of_eq, lt_of_lt_of_le, lt_irrefl, mul_right
 use lib.Dec.{T, lit≤}
 use lib.IntN.{ℤ, pos}
 use lib.Pow.{pow_pos}
-use lib.Ieee.{Float, nan, inf, fin, binary32, up, down, le, fits}
+use lib.Ieee.{Float, nan, inf, fin, binary32, up, down, neg, le, fits}
 use borrow.Author.Tests.{le-leb}
 use Rattle.ieee.specs.Order.{finite}
 use Rattle.ieee.proofs.Naturals.{le_or_lt}
@@ -32,7 +32,10 @@ most s m e F =
     (le_trans (mul-le-mul_right (down e) (size_most p.size p.grid small)) (le_of_eq (mul_right_comm (16777215 * 2 ^ 104) (2 ^ 149) (down e))))) (pow_pos 149)
 
 pub finite_is : (x : Float) → T (fits binary32 x) → le (fin true 16777215 (pos 104)) x && le x (fin false 16777215 (pos 104)) ≡ finite x
-unfolding finite within
-finite_is nan F = within_is 16777215 104 nan
-finite_is (inf s) F = within_is 16777215 104 (inf s)
-finite_is (fin s m e) F = within_is 16777215 104 (fin s m e) ∙ le-leb (m * up e) (16777215 * 2 ^ 104 * down e) (most s m e F)
+unfolding finite within neg
+finite_is x F = within_is (16777215 * 2 ^ 104) (fin false 16777215 (pos 104)) (refl, refl) x ∙ magnitude x F
+  where
+    magnitude : (x : Float) → T (fits binary32 x) → within (16777215 * 2 ^ 104) x ≡ finite x
+    magnitude nan F = refl
+    magnitude (inf s) F = refl
+    magnitude (fin s m e) F = le-leb (m * up e) (16777215 * 2 ^ 104 * down e) (most s m e F)

@@ -1,18 +1,15 @@
 -- Of two floats that are no NaN, one is at most the other, or above it. Assumes nothing.
 use mathlib.Core.Path.{◌≡◌, refl, sym, ap, ◌∙◌}
 use mathlib.Core.Logic.{inl, inr}
-use mathlib.Core.Bool.{Bool, true, false, not, ◌&&◌, ◌||◌, true≢false}
-use Prim.Native.Nat.{ℕ, ◌+◌, ◌*◌, ◌^◌}
+use mathlib.Core.Bool.{Bool, true, false, not, true≢false}
+use Prim.Native.Nat.{ℕ, ◌+◌, ◌*◌}
 use native.Mathlib.Nat.{mul_assoc, mul_comm, mul-pos}
 use native.Mathlib.Omega.{arith}
-use lib.IntN.{pos}
 use lib.Ieee.{Float, nan, inf, fin, up, down, below, le, lt, eq, is_nan}
 use lib.Ieee.Fits.{down_pos}
 use borrow.Author.Tests.{lt-ltb, le-ltb, le-leb, lt-leb, eq-eqb, ne_eqb}
 use Rattle.ieee.proofs.Naturals.{le_or_lt}
 use Rattle.ieee.proofs.Comparing.{le_is, up_to}
-use Rattle.ranges.specs.Ranges.{within}
-use Rattle.ranges.proofs.Bounds.{within_is}
 
 -- two sizes with their signs
 turned : (s t : Bool) (a b : ℕ) → not (up_to s a t b) ≡ below t b s a
@@ -52,22 +49,3 @@ not_le (fin s m e) (fin t n d) h k =
     (refl, ap (λ (c : ℕ). m * up e * c) (mul_comm (down e) (down d)) ∙ sym (mul_assoc (m * up e) (down d) (down e)))
     (refl, sym (mul_assoc (n * up d) (down e) (down d))))
     ∙ turned s t (m * up e * down d) (n * up d * down e)
-
-neither : (a b : Bool) → not (not a || not b) ≡ a && b
-neither true true = refl
-neither true false = refl
-neither false b = refl
-
-plain : (q k : ℕ) (x : Float) → is_nan x ≡ false → not (lt x (fin true q (pos k)) || lt (fin false q (pos k)) x) ≡ within (q * 2 ^ k) x
-unfolding is_nan
-plain q k x h =
-    ap (λ (b : Bool). not (b || lt (fin false q (pos k)) x)) (sym (not_le (fin true q (pos k)) x refl h))
-    ∙ ap (λ (b : Bool). not (not (le (fin true q (pos k)) x) || b)) (sym (not_le x (fin false q (pos k)) h refl))
-    ∙ neither (le (fin true q (pos k)) x) (le x (fin false q (pos k))) ∙ within_is q k x
-
--- neither below -limit nor above limit, a limit being q * 2 ^ k
-pub outside_is : (q k : ℕ) (x : Float) → not (lt x (fin true q (pos k)) || lt (fin false q (pos k)) x) ≡ is_nan x || within (q * 2 ^ k) x
-unfolding lt is_nan
-outside_is q k nan = refl
-outside_is q k (inf s) = plain q k (inf s) refl
-outside_is q k (fin s m e) = plain q k (fin s m e) refl

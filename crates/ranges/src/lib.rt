@@ -1,47 +1,44 @@
-// Whether floats are in their ranges.
+// Whether floats are in their ranges. The tests have no jump, so that floats are tested four at a time.
 #![tactic(auto)]
 
-ghost use Rattle.std.specs.Prelude.{◌≡◌};
+ghost use Rattle.std.specs.Prelude.{◌≡◌, ◌≤◌};
 ghost use Rattle.ieee.specs.Order.{finite};
 ghost use Rattle.refine.specs.Covariance.{all_finite};
 ghost use Rattle.ranges.specs.Ranges.{within, up_to, all_within, both_within, sigma_range};
 
 use refine::PositionCovariance;
 
-// The largest number of f32, (2 ^ 24 - 1) * 2 ^ 104.
-const LARGEST: f32 = 3.4028235e38;
-
-pub fn within_thousand(x: f32) -> bool
-    ensures { result ≡ within 1000 x }
+// Whether x is of a magnitude of at most N.
+pub fn within<const N: u32>(x: f32) -> bool
+    requires { N ≤ 16777216 }
+    ensures { result ≡ within N x }
 {
-    (-1000.0 <= x) & (x <= 1000.0)
+    let most = N as f32;
+    (-most <= x) & (x <= most)
 }
 
-pub fn within_million(x: f32) -> bool
-    ensures { result ≡ within 1000000 x }
+// Whether x is from 0 to N.
+pub fn up_to<const N: u32>(x: f32) -> bool
+    requires { N ≤ 16777216 }
+    ensures { result ≡ up_to N x }
 {
-    (-1000000.0 <= x) & (x <= 1000000.0)
-}
-
-pub fn up_to_thousand(x: f32) -> bool
-    ensures { result ≡ up_to 1000 x }
-{
-    (0.0 <= x) & (x <= 1000.0)
+    (0.0 <= x) & (x <= N as f32)
 }
 
 pub fn sigma_in_range(x: f32) -> bool
     ensures { result ≡ sigma_range x }
 {
-    !((x < -1000.0) | (1000.0 < x))
+    x.is_nan() | within::<1000>(x)
 }
 
 // As `float::is_finite32` says it; compared with numbers, as the ranges are, the floats are tested four at a time.
 fn is_number(x: f32) -> bool
     ensures { result ≡ finite x }
 {
-    (-LARGEST <= x) & (x <= LARGEST)
+    (f32::MIN <= x) & (x <= f32::MAX)
 }
 
+// Entry by entry, here and in `all_within`: a test handed over as a closure would be no shorter, and proved by more.
 pub fn all_finite(c: PositionCovariance) -> bool
     ensures { result ≡ all_finite c }
 {
@@ -51,11 +48,11 @@ pub fn all_finite(c: PositionCovariance) -> bool
 pub fn all_within(c: PositionCovariance) -> bool
     ensures { result ≡ all_within 1000000 c }
 {
-    within_million(c.xx) & within_million(c.xy) & within_million(c.yy)
+    within::<1_000_000>(c.xx) & within::<1_000_000>(c.xy) & within::<1_000_000>(c.yy)
 }
 
 pub fn both_within(v: [f32; 2]) -> bool
     ensures { result ≡ both_within 1000 v }
 {
-    within_thousand(v[0]) & within_thousand(v[1])
+    within::<1000>(v[0]) & within::<1000>(v[1])
 }

@@ -1,13 +1,11 @@
 -- Document 01, "Lids with known readings": each starred reading is a row of one listing.
-use Rattle.std.specs.Prelude.{◌≡◌, cond, false, ◌&&◌, List, [], ◌∷◌, ℕ, ◌+◌, ◌*◌, ◌%◌, eqb, pos, Float}
+use Rattle.std.specs.Prelude.{◌≡◌, cond, false, ◌&&◌, List, [], ◌∷◌, ℕ, ◌+◌, ◌*◌, ◌%◌, eqb, pos, Float, Some, Ok}
 use Rattle.std.specs.Float.{binary32, binary64}
 use Rattle.std.specs.Float.Ieee.{of_int, round}
 use Rattle.std.specs.Float.Ieee.Exact.{HasValue}
 use Rattle.laws.specs.Lists.{from}
 use Rattle.ieee.specs.Convert.{convert}
 use Rattle.ieee.specs.Numbers.{plus_zero}
-use Rattle.knots.specs.declared.Width.TheVariants.{Known}
-use Rattle.model.specs.declared.At.TheVariants.{Given}
 use Rattle.model.specs.Knots.{table, at_of}
 use Rattle.window.specs.Window.{Window, stats_of}
 use Rattle.band.specs.Bands.{band_of, rail}
@@ -57,8 +55,8 @@ Holds (rounding n r) =
 Holds (knots a b c) =
     at_of
     (table 2 plus_zero (padded a.width b.width) (padded a.gain b.gain) (padded a.residual b.residual))
-    (Known (eighths c.width))
-    ≡ Given (eighths c.gain) (eighths c.residual)
+    (Some (eighths c.width))
+    ≡ Ok (record { gain = eighths c.gain; residual = eighths c.residual })
 
 abbrev pub listing : List Reading
 listing =

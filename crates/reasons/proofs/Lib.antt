@@ -1,3 +1,2 @@
-pub mod Said
+-- Laws on sentences.
 pub mod Short
-pub mod Numbered

@@ -1,31 +1,42 @@
--- No sentence is longer than the bound: each row of the table, and what a number without a row is told.
-use mathlib.Core.Bool.{Bool, true, ◌&&◌}
+-- No sentence is longer than the bound: each reason's, and what a number without a reason is told.
+use mathlib.Core.Bool.{Bool, ◌&&◌}
+use mathlib.Core.Path.{subst}
 use mathlib.Core.List.{List, [], ◌∷◌}
-use Prim.Native.Nat.{ℕ, ◌≤◌}
-use Prim.Native.String.{String}
+use Prim.Native.Nat.{ℕ, zero, suc, ◌-◌, ◌≤◌}
 use native.Mathlib.Omega.{arith}
 use lib.Dec.{T, eqb, leb, leb→le}
 use lib.Ieee.Fits.{and_l, and_r}
-use lib.ListN.{length}
+use lib.ListN.{length, get_or}
+use Rattle.std.specs.Prelude.{Option, Some, None}
 use Rattle.laws.proofs.Choice.{cond_both}
+use Rattle.numbers.specs.declared.Number.{Number}
+use Rattle.numbers.specs.declared.Number.TheVariants.{SideAbove}
+use Rattle.numbers.specs.Numbers.{number_of, all, in_order}
 use Rattle.text.specs.Text.{as_bytes}
-use Rattle.reasons.specs.Reasons.{reason_bytes, sentences, beside, reason_of}
+use Rattle.reasons.specs.Reasons.{reason_bytes, sentence_of, reason_at, told_by, reason_of}
 
-abbrev Fits : String → Type 0
-Fits s = length (as_bytes s) ≤ reason_bytes
+abbrev Fits : List ℕ → Type 0
+Fits l = length l ≤ reason_bytes
 
-abbrev short : String → Bool
-short s = leb (length (as_bytes s)) reason_bytes
+abbrev short : Number → Bool
+short why = leb (length (sentence_of why)) reason_bytes
 
-abbrev all : List (ℕ × String) → Bool
-all [] = true
-all ((k, s) ∷ rows) = short s && all rows
+abbrev all_short : List Number → Bool
+all_short [] = short SideAbove
+all_short (why ∷ l) = short why && all_short l
 
-beside_fits : (rows : List (ℕ × String)) (n : ℕ) → T (all rows) → Fits (beside rows n)
-beside_fits [] n h = omega arith
-beside_fits ((k, s) ∷ rows) n h =
-    cond_both Fits (eqb n k) s (beside rows n) (leb→le (length (as_bytes s)) reason_bytes (and_l (short s) (all rows) h)) (beside_fits rows n (and_r (short s) (all rows) h))
+at_short : (l : List Number) (k : ℕ) → T (all_short l) → T (short (get_or l k SideAbove))
+at_short [] k t = t
+at_short (why ∷ l) zero t = and_l (short why) (all_short l) t
+at_short (why ∷ l) (suc k) t = at_short l k (and_r (short why) (all_short l) t)
 
-pub reason_short : (n : ℕ) → length (as_bytes (reason_of n)) ≤ reason_bytes
+sentence_short : (why : Number) → Fits (sentence_of why)
+sentence_short why = subst (λ (w : Number). Fits (sentence_of w)) (in_order why) (leb→le _ reason_bytes (at_short all (number_of why - 1) tt))
+
+by_reason : (n : ℕ) (r : Option Number) → Fits (told_by n r)
+by_reason n (Some why) = sentence_short why
+by_reason n None = cond_both Fits (eqb n 0) (as_bytes "there is a figure") (as_bytes "no such number") (omega arith) (omega arith)
+
+pub reason_short : (n : ℕ) → length (reason_of n) ≤ reason_bytes
 unfolding reason_of
-reason_short n = beside_fits sentences n tt
+reason_short n = by_reason n (reason_at n)

@@ -1,3 +1,2 @@
 pub mod Reasons
-pub mod Parts
 pub mod Examples

@@ -1,72 +1,119 @@
 // The sentences of the numbers that the desk reads.
 #![tactic(auto)]
 
-ghost use Rattle.std.specs.Prelude.{◌≡◌, ◌+◌, ◌≤◌, length};
-ghost use Rattle.text.specs.Text.{as_bytes};
-ghost use Rattle.text.specs.Placed.{LaidTo};
-ghost use Rattle.reasons.specs.Reasons.{reason_bytes, reason_of, numbered_bytes, numbered_of};
-ghost use Rattle.reasons.specs.Parts.{text_of, starts_of};
+ghost use Rattle.std.specs.Prelude.{◌≡◌, ◌+◌, ◌≤◌, ◌++◌, length};
+ghost use Rattle.reasons.specs.Reasons.{reason_bytes, sentence_of, reason_at, reason_of, numbered_bytes, numbered_of, no_figure, remark_by};
 
-// The sentences of the numbers from 0 up, one after the other.
-const SENTENCES: [u8; 1109] = *b"\
-    there is a figure\
-    a side is above 16,384\
-    the pixel slice is not width x height long\
-    a side is below 4: a window needs 4 by 4 pixels\
-    a work slice, the answer slice or the slice of fields is too short\
-    under 512 windows are kept: the lid is small, or too much of it is near black or white\
-    no band of brightness has a variance: there is no quiet area\
-    the bands that join hold under 512 windows: there is too little quiet area\
-    a part of the centre or of the origin is beyond 1,000,000 either way\
-    the patch is flat once it is smoothed: there is no edge to measure\
-    the side of the support is above 32\
-    the pixel is outside the support\
-    a float is outside its range\
-    a covariance or a model has a component that is not finite\
-    there is no knot, there are over 16, or their widths do not rise strictly\
-    the input is not 4 + width x height bytes long\
-    there are over 4,096 pixels\
-    the bytes do not begin with a record's mark\
-    the slice is shorter than a record\
-    a field of the record breaks the rule\
-    the header is not that of a binary PGM file as the camera tool writes it\
-    the PGM file's maximum is not 255\
-    the raster is not width x height bytes long";
+use arrayvec::ArrayString;
+use numbers::Number;
 
-// Where each begins, and after the last its end.
-const STARTS: [usize; 24] = [
-    0, 17, 39, 81, 128, 194, 280, 340, 414, 482, 548, 583, 615, 643, 701, 774, 820, 847, 890, 924,
-    961, 1033, 1066, 1109,
+// All of them, in the order of their numbers.
+const ALL: [Number; 22] = [
+    Number::SideAbove,
+    Number::OtherLength,
+    Number::SideBelow,
+    Number::ShortSlice,
+    Number::Few,
+    Number::NoBand,
+    Number::Thin,
+    Number::Far,
+    Number::Flat,
+    Number::Support,
+    Number::Outside,
+    Number::FloatRange,
+    Number::NotFinite,
+    Number::Knots,
+    Number::NotALid,
+    Number::ManyPixels,
+    Number::OtherMark,
+    Number::ShortRecord,
+    Number::BrokenRule,
+    Number::PgmHeader,
+    Number::PgmMaximum,
+    Number::PgmRaster,
 ];
 
-// Lays a number's sentence, a part of such a text, over what stands from place `at` on, and answers where it ends.
-fn put_part(out: &mut [u8], at: usize, number: u32, sentences: &[u8], starts: &[usize]) -> usize
-    requires { (at + reason_bytes ≤ length out.old) × (sentences.now ≡ text_of) × (starts.now ≡ starts_of) }
-    ensures { LaidTo out.old at (as_bytes (reason_of number)) result out.new }
+// Why there is no figure, in a sentence for a person.
+pub fn sentence(why: Number) -> &'static str
+    ensures { result.now ≡ sentence_of why }
 {
-    let k = number as usize;
-    if k + 1 >= starts.len() {
-        return text::put(out, at, b"no such number");
+    match why {
+        Number::SideAbove => "a side is above 16,384",
+        Number::OtherLength => "the pixel slice is not width x height long",
+        Number::SideBelow => "a side is below 4: a window needs 4 by 4 pixels",
+        Number::ShortSlice => "a work slice, the answer slice or the slice of fields is too short",
+        Number::Few =>
+            "under 512 windows are kept: the lid is small, or too much of it is near black or white",
+        Number::NoBand => "no band of brightness has a variance: there is no quiet area",
+        Number::Thin =>
+            "the bands that join hold under 512 windows: there is too little quiet area",
+        Number::Far => "a part of the centre or of the origin is beyond 1,000,000 either way",
+        Number::Flat => "the patch is flat once it is smoothed: there is no edge to measure",
+        Number::Support => "the side of the support is above 32",
+        Number::Outside => "the pixel is outside the support",
+        Number::FloatRange => "a float is outside its range",
+        Number::NotFinite => "a covariance or a model has a component that is not finite",
+        Number::Knots =>
+            "there is no knot, there are over 16, or their widths do not rise strictly",
+        Number::NotALid => "the input is not 4 + width x height bytes long",
+        Number::ManyPixels => "there are over 4,096 pixels",
+        Number::OtherMark => "the bytes do not begin with a record's mark",
+        Number::ShortRecord => "the slice is shorter than a record",
+        Number::BrokenRule => "a field of the record breaks the rule",
+        Number::PgmHeader =>
+            "the header is not that of a binary PGM file as the camera tool writes it",
+        Number::PgmMaximum => "the PGM file's maximum is not 255",
+        Number::PgmRaster => "the raster is not width x height bytes long",
     }
-    text::put(out, at, &sentences[starts[k]..starts[k + 1]])
 }
 
-// Lays the number's sentence over what stands from place `at` on, and answers where it ends.
-pub fn put(out: &mut [u8], at: usize, number: u32) -> usize
-    requires { at + reason_bytes ≤ length out.old }
-    ensures { LaidTo out.old at (as_bytes (reason_of number)) result out.new }
+// The reason that has this number, if there is one.
+#[tactic(auto, unfolding(crate::specs::Reasons::reason_at))]
+pub fn reason(number: u32) -> Option<Number>
+    ensures { result ≡ reason_at number }
 {
-    put_part(out, at, number, &SENTENCES, &STARTS)
+    ALL.iter().copied().find(|why| u32::from(*why) == number)
 }
 
-// Lays `number N: SENTENCE` and a line's end, in the same way.
-pub fn put_numbered(out: &mut [u8], at: usize, number: u32) -> usize
-    requires { at + numbered_bytes ≤ length out.old }
-    ensures { LaidTo out.old at (numbered_of number) result out.new }
+// What a number says: its reason's sentence, of 0 that there is a figure, of any other that it is none.
+#[tactic(auto, unfolding(crate::specs::Reasons::reason_of))]
+pub fn told(number: u32) -> &'static str
+    ensures value { result.now ≡ reason_of number }
+    ensures short { length result.now ≤ reason_bytes }
 {
-    let named = text::put(out, at, b"number ");
-    let told = text::put_decimal(out, named, number as u64);
-    let parted = text::put(out, told, b": ");
-    let said = put(out, parted, number);
-    text::put(out, said, b"\n")
+    match reason(number) {
+        Some(why) => sentence(why),
+        None if number == 0 => "there is a figure",
+        None => "no such number",
+    }
+}
+
+// Appends `number N: SENTENCE` and a line's end.
+#[tactic(auto, unfolding(crate::specs::Reasons::numbered_of))]
+pub fn push_numbered<const N: usize>(text: &mut ArrayString<N>, number: u32)
+    requires { length text.old.bytes + numbered_bytes ≤ N }
+    ensures bytes { text.new.bytes ≡ text.old.bytes ++ numbered_of number }
+    ensures short { length text.new.bytes ≤ length text.old.bytes + numbered_bytes }
+{
+    text.push_str("number ");
+    text::push_decimal(text, u64::from(number));
+    text.push_str(": ");
+    text.push_str(told(number));
+    text.push_str("\n");
+}
+
+// What a program says of a number on standard error: nothing beside a figure, else `before`, then its name and why there is none.
+#[tactic(auto, unfolding(crate::specs::Reasons::remark_by))]
+pub fn remark<const N: usize>(before: &str, program: &str, number: u32) -> ArrayString<N>
+    requires { length before.now + length program.now + length no_figure + numbered_bytes ≤ N }
+    ensures { result.bytes ≡ remark_by before.now program.now number }
+{
+    let mut text = ArrayString::new();
+    if number != 0 {
+        text.push_str(before);
+        text.push_str(program);
+        text.push_str(": no figure, ");
+        push_numbered(&mut text, number);
+    }
+    text
 }

@@ -10,9 +10,8 @@ use lib.ListN.{length, get_or}
 use borrow.Author.Tests.{eq-eqb, eqb-true}
 use Rattle.laws.proofs.Refusing.{and_left, and_right}
 use Rattle.ieee.proofs.Naturals.{le_or_lt}
+use Rattle.std.specs.Prelude.{Ok}
 use Rattle.record.specs.declared.Record.{Record}
-use Rattle.record.specs.declared.Reading.{Reading}
-use Rattle.record.specs.declared.Reading.TheVariants.{Given, Refused}
 use Rattle.record.specs.Rule.{Allowed, allowed}
 use Rattle.record.specs.Records.{Form, size_of, Written, written_as, marked, record_in, read_as}
 use Rattle.record.specs.Demand1.{Marked, WriteMeets, ReadMeets}
@@ -76,24 +75,6 @@ module _ (f : Form) (r : Record) (out : List ℕ) where
 
 -- ---- reading
 
--- refusals differ by their numbers, and a record is none
-abbrev number_in : Reading → ℕ
-number_in (Given r) = 0
-number_in (Refused n) = n
-
-differ : {m n : ℕ} → Refused m ≡ Refused n → m ≡ n
-differ e = ap number_in e
-
-no_number : {r : Record} {n : ℕ} → Refused n ≡ Given r → n ≡ 0
-no_number e = ap number_in e
-
-abbrev record_or : Record → Reading → Record
-record_or d (Given r) = r
-record_or d (Refused n) = d
-
-pub same_record : {r s : Record} → Given r ≡ Given s → r ≡ s
-same_record {r} e = ap (record_or r) e
-
 module _ (f : Form) (l : List ℕ) where
   pub read_meets : ReadMeets f l (read_as f l)
   read_meets = elim (le_or_lt (size_of f) (length l)) [ inl h ↦ by_mark h (marked f l) refl | inr h ↦ too_short h ]
@@ -104,9 +85,9 @@ module _ (f : Form) (l : List ℕ) where
           record {
             only = inr (inr (inl e));
             cut_short = (λ _. h, λ _. e);
-            mark = (λ p. absurd (omega (arith, differ (sym e ∙ p))), λ p. absurd (omega (arith, p.0)));
-            broken = (λ p. absurd (omega (arith, differ (sym e ∙ p))), λ p. absurd (omega (arith, p.0)));
-            given = λ r. (λ p. absurd (omega (arith, no_number (sym e ∙ p))), λ p. absurd (omega (arith, p.0)));
+            mark = (λ p. absurd (cc), λ p. absurd (omega (arith, p.0)));
+            broken = (λ p. absurd (cc), λ p. absurd (omega (arith, p.0)));
+            given = λ r. (λ p. absurd (cc), λ p. absurd (omega (arith, p.0)));
           }
 
       by_rule : size_of f ≤ length l → marked f l ≡ true → (b : Bool) → allowed (record_in f l) ≡ b → ReadMeets f l (read_as f l)
@@ -115,22 +96,22 @@ module _ (f : Form) (l : List ℕ) where
           let no = not_words (allowed (record_in f l)) (allowed_iff (record_in f l)) a in
           record {
             only = inr (inr (inr e));
-            cut_short = (λ p. absurd (omega (arith, differ (sym e ∙ p))), λ p. absurd (omega (arith, p)));
-            mark = (λ p. absurd (omega (arith, differ (sym e ∙ p))), λ p. absurd (p.1 ((marked_iff f l).0 m)));
+            cut_short = (λ p. absurd (cc), λ p. absurd (omega (arith, p)));
+            mark = (λ p. absurd (cc), λ p. absurd (p.1 ((marked_iff f l).0 m)));
             broken = (λ _. (h, (marked_iff f l).0 m, no), λ _. e);
-            given = λ r. (λ p. absurd (omega (arith, no_number (sym e ∙ p))), λ p. absurd (no (subst Allowed p.3 p.2)));
+            given = λ r. (λ p. absurd (cc), λ p. absurd (no (subst Allowed p.3 p.2)));
           }
       by_rule h m true a =
           let e = sym (given f l h m (record_in f l) refl a) in
           let yes = (allowed_iff (record_in f l)).0 a in
           record {
             only = inl e;
-            cut_short = (λ p. absurd (omega (arith, no_number (sym p ∙ e))), λ p. absurd (omega (arith, p)));
-            mark = (λ p. absurd (omega (arith, no_number (sym p ∙ e))), λ p. absurd (p.1 ((marked_iff f l).0 m)));
-            broken = (λ p. absurd (omega (arith, no_number (sym p ∙ e))), λ p. absurd (p.2 yes));
+            cut_short = (λ p. absurd (cc), λ p. absurd (omega (arith, p)));
+            mark = (λ p. absurd (cc), λ p. absurd (p.1 ((marked_iff f l).0 m)));
+            broken = (λ p. absurd (cc), λ p. absurd (p.2 yes));
             given = λ r. (
-              λ p. let s = same_record (sym e ∙ p) in (h, (marked_iff f l).0 m, subst Allowed s yes, sym s),
-              λ p. e ∙ ap (λ (x : Record). Given x) (sym p.3),
+              λ p. let s : record_in f l ≡ r = cc in (h, (marked_iff f l).0 m, subst Allowed s yes, sym s),
+              λ p. e ∙ ap (λ (x : Record). Ok x) (sym p.3),
             );
           }
 
@@ -140,9 +121,9 @@ module _ (f : Form) (l : List ℕ) where
           let no = not_words (marked f l) (marked_iff f l) m in
           record {
             only = inr (inl e);
-            cut_short = (λ p. absurd (omega (arith, differ (sym e ∙ p))), λ p. absurd (omega (arith, p)));
+            cut_short = (λ p. absurd (cc), λ p. absurd (omega (arith, p)));
             mark = (λ _. (h, no), λ _. e);
-            broken = (λ p. absurd (omega (arith, differ (sym e ∙ p))), λ p. absurd (no p.1));
-            given = λ r. (λ p. absurd (omega (arith, no_number (sym e ∙ p))), λ p. absurd (no p.1));
+            broken = (λ p. absurd (cc), λ p. absurd (no p.1));
+            given = λ r. (λ p. absurd (cc), λ p. absurd (no p.1));
           }
       by_mark h true m = by_rule h m (allowed (record_in f l)) refl

@@ -1,5 +1,5 @@
--- The rule as a test is the rule in words, and each of its parts decides alone where it fails.
-use mathlib.Core.Path.{◌≡◌, refl, sym, ap, ◌∙◌}
+-- The rule as a test is the rule in words.
+use mathlib.Core.Path.{◌≡◌, refl, sym, ◌∙◌}
 use mathlib.Core.Bool.{Bool, true, false, cond, not, ◌&&◌, ◌||◌, true≢false, false≢true}
 use mathlib.Core.Logic.{◌↔◌, ◌⊎◌, inl, inr}
 use Prim.Native.Nat.{ℕ, ◌+◌, ◌≤◌}
@@ -117,30 +117,3 @@ allowed_iff r = (there, back)
           (sigma_is r.answer r.sigma (band_sum r)).1 (a.figure, a.no_figure),
           (counts_are r.width r.height (band_sum r + r.rail)).1 a.counts,
         ) refl
-
--- ---- part by part, as the code judges
-
-module _ (r : Record) where
-  pub is_large : too_large r.width r.height ≡ true → false ≡ allowed r
-  unfolding allowed
-  is_large l = rw l refl
-
-  module _ (l : too_large r.width r.height ≡ false) where
-    pub is_small : too_small r.width r.height ≡ true → false ≡ allowed r
-    unfolding allowed
-    is_small s = rw (l, s) refl
-
-    module _ (s : too_small r.width r.height ≡ false) where
-      pub not_stored : stored_answer r.answer ≡ false → false ≡ allowed r
-      unfolding allowed
-      not_stored a = rw (l, s, a) refl
-
-      module _ (a : stored_answer r.answer ≡ true) (kept : ℕ) (k : kept ≡ band_sum r) where
-        pub sigma_not : sigma_taken r.answer r.sigma kept ≡ false → false ≡ allowed r
-        unfolding allowed
-        sigma_not b = rw (l, s, a, ap (sigma_taken r.answer r.sigma) (sym k) ∙ b) refl
-
-        pub by_counts : (rail : ℕ) → rail ≡ r.rail → sigma_taken r.answer r.sigma kept ≡ true
-            → counts_taken r.width r.height (kept + rail) ≡ allowed r
-        unfolding allowed
-        by_counts rail e b = rw (l, s, a, ap (sigma_taken r.answer r.sigma) (sym k) ∙ b, sym k, sym e) refl

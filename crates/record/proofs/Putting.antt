@@ -1,10 +1,10 @@
 -- A loop that lays numbers by their sizes one after the other, from place 2 on, and has laid k of them, up to place `at`.
-use mathlib.Core.Path.{◌≡◌, refl, sym, ap, ◌∙◌, subst}
+use mathlib.Core.Path.{◌≡◌, sym, ap, ◌∙◌, subst}
 use mathlib.Core.List.{List, [], ◌∷◌, ◌++◌}
 use Prim.Native.Nat.{ℕ, ◌+◌, ◌≤◌, ◌<◌}
 use native.Mathlib.Numerals.{add-one}
 use native.Mathlib.Omega.{arith}
-use lib.ListN.{length, get_or, take, drop, set, drop_of_length-le}
+use lib.ListN.{length, get_or, take, drop, drop_of_length-le}
 use lib.Seq.{drop-cons}
 use Rattle.laws.proofs.Fill.{Writing, put_many, end}
 use Rattle.laws.specs.Lists.{laid}
@@ -54,16 +54,3 @@ module _ {ns xs out₀ : List ℕ} where
 
       whole : at ≡ 2 + byte_sum ns
       whole = omega (arith, i.left, ap byte_sum none)
-
--- ---- two bytes over the first two
-
-pub over_two : (l p r : List ℕ) (a b : ℕ) → 2 ≤ length l → set (set ((take 2 l ++ p) ++ r) 0 a) 1 b ≡ (a ∷ b ∷ p) ++ r
-over_two [] p r a b h = absurd (none h)
-  where
-    none : 2 ≤ 0 → ⊥
-    none h = omega arith
-over_two (x ∷ []) p r a b h = absurd (none h)
-  where
-    none : 2 ≤ 1 → ⊥
-    none h = omega arith
-over_two (x ∷ y ∷ l) p r a b h = refl

@@ -6,25 +6,26 @@ use Prim.Native.Nat.{ℕ, ◌≤◌, ◌<◌}
 use lib.ListN.{length}
 use borrow.Author.Tests.{lt-ltb, le-ltb}
 use Rattle.record.specs.declared.Record.{Record}
-use Rattle.record.specs.declared.Reading.TheVariants.{Given, Refused}
+use Rattle.std.specs.Prelude.{Ok, Err}
+use Rattle.numbers.specs.declared.Number.TheVariants.{OtherMark, ShortRecord, BrokenRule}
 use Rattle.record.specs.Rule.{allowed}
 use Rattle.record.specs.Records.{Form, size_of, marked, record_in, read_as}
 
 module _ (f : Form) (l : List ℕ) where
-  pub cut_short : length l < size_of f → Refused 18 ≡ read_as f l
+  pub cut_short : length l < size_of f → Err ShortRecord ≡ read_as f l
   unfolding read_as
   cut_short h = rw (lt-ltb (length l) (size_of f) h) refl
 
   module _ (h : size_of f ≤ length l) where
-    pub foreign : marked f l ≡ false → Refused 17 ≡ read_as f l
+    pub foreign : marked f l ≡ false → Err OtherMark ≡ read_as f l
     unfolding read_as
     foreign m = rw (le-ltb (length l) (size_of f) h, m) refl
 
     module _ (m : marked f l ≡ true) (r : Record) (e : r ≡ record_in f l) where
-      pub broken : allowed r ≡ false → Refused 19 ≡ read_as f l
+      pub broken : allowed r ≡ false → Err BrokenRule ≡ read_as f l
       unfolding read_as
       broken a = rw (le-ltb (length l) (size_of f) h, m, ap (λ (x : Record). allowed x) (sym e) ∙ a) refl
 
-      pub given : allowed r ≡ true → Given r ≡ read_as f l
+      pub given : allowed r ≡ true → Ok r ≡ read_as f l
       unfolding read_as
-      given a = rw (le-ltb (length l) (size_of f) h, m, ap (λ (x : Record). allowed x) (sym e) ∙ a) (ap (λ (x : Record). Given x) e)
+      given a = rw (le-ltb (length l) (size_of f) h, m, ap (λ (x : Record). allowed x) (sym e) ∙ a) (ap (λ (x : Record). Ok x) e)

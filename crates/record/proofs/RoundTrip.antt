@@ -12,7 +12,7 @@ use borrow.Author.Tests.{le-ltb}
 use Rattle.laws.proofs.Each.{each_drop}
 use Rattle.little_endian.specs.Bytes.{Bytes}
 use Rattle.record.specs.declared.Record.{Record}
-use Rattle.record.specs.declared.Reading.TheVariants.{Given}
+use Rattle.std.specs.Prelude.{Ok}
 use Rattle.record.specs.Layout.{bytes_in, numbers_in, Fit}
 use Rattle.record.specs.Rule.{AnswerStored, Allowed, allowed}
 use Rattle.record.specs.Records.{Form, form_nf, size_of, fields_of, record_of, bytes_as, Written, written_as, marked, read_as}
@@ -45,14 +45,14 @@ fields_back : (r : Record) → record_of (fields_of r) ≡ r
 fields_back r = refl
 
 -- the record's bytes, whatever follows them
-pub bytes_read : (r : Record) (after : List ℕ) → Fit form_nf.field_bytes (fields_of r) → allowed r ≡ true → read_as form_nf (bytes_as form_nf r ++ after) ≡ Given r
+pub bytes_read : (r : Record) (after : List ℕ) → Fit form_nf.field_bytes (fields_of r) → allowed r ≡ true → read_as form_nf (bytes_as form_nf r ++ after) ≡ Ok r
 unfolding bytes_as
 bytes_read r after fit ok =
     sym (given form_nf (0x4E ∷ 0x46 ∷ (bytes_in form_nf.field_bytes (fields_of r) ++ after))
     (omega (arith, length-append (bytes_in form_nf.field_bytes (fields_of r)) after, length_laid form_nf.field_bytes (fields_of r) fit)) refl r
     (sym (ap record_of (numbers_bytes form_nf.field_bytes (fields_of r) after fit) ∙ fields_back r)) ok)
 
-pub read_written : (r : Record) (out : List ℕ) → Typed r → (written_as form_nf r out).number ≡ 0 → read_as form_nf (written_as form_nf r out).bytes ≡ Given r
+pub read_written : (r : Record) (out : List ℕ) → Typed r → (written_as form_nf r out).number ≡ 0 → read_as form_nf (written_as form_nf r out).bytes ≡ Ok r
 read_written r out t e =
     let w = write_meets form_nf r out in
     let a = (w.taken.0 e).0 in
@@ -75,7 +75,7 @@ numbers_back : (l : List ℕ) → fields_of (record_of (numbers_in form_nf.field
 unfolding numbers_in
 numbers_back l = refl
 
-pub bytes_back : (l : List ℕ) (r : Record) → Bytes l → read_as form_nf l ≡ Given r → bytes_as form_nf r ≡ take 35 l
+pub bytes_back : (l : List ℕ) (r : Record) → Bytes l → read_as form_nf l ≡ Ok r → bytes_as form_nf r ≡ take 35 l
 unfolding bytes_as
 bytes_back l r b e =
     let g = ((read_meets form_nf l).given r).0 e in
@@ -86,7 +86,7 @@ bytes_back l r b e =
     ∙ ap (λ (xs : List ℕ). xs ++ take 33 (drop 2 l)) (front_two l 0x4E 0x46 (omega (arith, g.0)) g.1.0 g.1.1)
     ∙ sym (take-add 2 33 l)
 
-pub written_read : (l : List ℕ) (r : Record) (out : List ℕ) → Bytes l → read_as form_nf l ≡ Given r → 35 ≤ length out
+pub written_read : (l : List ℕ) (r : Record) (out : List ℕ) → Bytes l → read_as form_nf l ≡ Ok r → 35 ≤ length out
     → written_as form_nf r out ≡ record { number = 0; bytes = take 35 l ++ drop 35 out }
 written_read l r out b e h =
     let w = write_meets form_nf r out in

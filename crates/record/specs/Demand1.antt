@@ -1,8 +1,8 @@
 -- Demand 1 for records, for every argument: which number each call gives and exactly when.
-use Rattle.std.specs.Prelude.{◌≡◌, ◌↔◌, ◌⊎◌, List, ◌++◌, ℕ, ◌≤◌, ◌<◌, length, get_or, drop}
+use Rattle.std.specs.Prelude.{◌≡◌, ◌↔◌, ◌⊎◌, List, ◌++◌, ℕ, ◌≤◌, ◌<◌, length, get_or, drop, Result, Ok, Err}
+use Rattle.numbers.specs.declared.Number.{Number}
+use Rattle.numbers.specs.declared.Number.TheVariants.{OtherMark, ShortRecord, BrokenRule}
 use Rattle.record.specs.declared.Record.{Record}
-use Rattle.record.specs.declared.Reading.{Reading}
-use Rattle.record.specs.declared.Reading.TheVariants.{Given, Refused}
 use Rattle.record.specs.Rule.{Allowed}
 use Rattle.record.specs.Records.{Form, size_of, bytes_as, Written, record_in}
 
@@ -23,10 +23,10 @@ pub record WriteMeets (f : Form) (r : Record) (out : List ℕ) (w : Written) : T
   pub changes : w.number ≡ 0 → w.bytes ≡ bytes_as f r ++ drop (size_of f) out
 
 -- a reading of bytes
-pub record ReadMeets (f : Form) (l : List ℕ) (x : Reading) : Type 0 where
+pub record ReadMeets (f : Form) (l : List ℕ) (x : Result Record Number) : Type 0 where
   -- a record, or no other number than 17, 18 and 19
-  pub only : (x ≡ Given (record_in f l)) ⊎ (x ≡ Refused 17) ⊎ (x ≡ Refused 18) ⊎ (x ≡ Refused 19)
-  pub cut_short : (x ≡ Refused 18) ↔ (length l < size_of f)
-  pub mark : (x ≡ Refused 17) ↔ ((size_of f ≤ length l) × (Marked f l → ⊥))
-  pub broken : (x ≡ Refused 19) ↔ ((size_of f ≤ length l) × Marked f l × (Allowed (record_in f l) → ⊥))
-  pub given : (r : Record) → (x ≡ Given r) ↔ ((size_of f ≤ length l) × Marked f l × Allowed r × (r ≡ record_in f l))
+  pub only : (x ≡ Ok (record_in f l)) ⊎ (x ≡ Err OtherMark) ⊎ (x ≡ Err ShortRecord) ⊎ (x ≡ Err BrokenRule)
+  pub cut_short : (x ≡ Err ShortRecord) ↔ (length l < size_of f)
+  pub mark : (x ≡ Err OtherMark) ↔ ((size_of f ≤ length l) × (Marked f l → ⊥))
+  pub broken : (x ≡ Err BrokenRule) ↔ ((size_of f ≤ length l) × Marked f l × (Allowed (record_in f l) → ⊥))
+  pub given : (r : Record) → (x ≡ Ok r) ↔ ((size_of f ≤ length l) × Marked f l × Allowed r × (r ≡ record_in f l))

@@ -1,5 +1,6 @@
 -- Worked records: their bytes, each limit of the rule at its end, the orders of the numbers.
-use Rattle.std.specs.Prelude.{◌≡◌, refl, true, false, List, [], ◌∷◌, ◌++◌, ℕ, replicate}
+use Rattle.std.specs.Prelude.{◌≡◌, refl, true, false, List, [], ◌∷◌, ◌++◌, ℕ, replicate, Ok, Err}
+use Rattle.numbers.specs.declared.Number.TheVariants.{OtherMark, ShortRecord, BrokenRule}
 use Rattle.little_endian.specs.Bytes.{bytes_of, value_of}
 use Rattle.grid.specs.Step.{step_of}
 use Rattle.grid.specs.Grid.{places_of}
@@ -7,7 +8,6 @@ use Rattle.record.specs.Layout.{bytes_in, numbers_in}
 use Rattle.record.specs.Rule.{stored_answer, sigma_taken, counts_taken, allowed}
 use Rattle.record.specs.Records.{form_nf, size_of, bytes_as, written_as, read_as}
 use Rattle.record.specs.declared.Record.{Record}
-use Rattle.record.specs.declared.Reading.TheVariants.{Given, Refused}
 
 -- a shot of 26 by 27, which has 23 × 24 = 552 windows, with this answer, sigma, first band and rail; 12 windows are in the others
 abbrev shot : ℕ → ℕ → ℕ → ℕ → Record
@@ -108,14 +108,14 @@ refused_writes = (refl, refl, refl)
 
 -- ---- reading
 
-pub reads : read_as form_nf (quiet_bytes ++ (9 ∷ 9 ∷ [])) ≡ Given quiet
+pub reads : read_as form_nf (quiet_bytes ++ (9 ∷ 9 ∷ [])) ≡ Ok quiet
 unfolding read_as numbers_in value_of allowed stored_answer sigma_taken counts_taken places_of step_of
 reads = refl
 
 -- 18, then 17 by either byte of the mark, then 19
-pub refused_reads : (read_as form_nf [] ≡ Refused 18) × (read_as form_nf (replicate 34 0) ≡ Refused 18)
-    × (read_as form_nf (replicate 35 0) ≡ Refused 17)
-    × (read_as form_nf (0x46 ∷ 0x4E ∷ replicate 33 0) ≡ Refused 17) × (read_as form_nf (0x4E ∷ 0x47 ∷ replicate 33 0) ≡ Refused 17)
-    × (read_as form_nf (0x4E ∷ 0x46 ∷ replicate 33 0) ≡ Refused 19)
+pub refused_reads : (read_as form_nf [] ≡ Err ShortRecord) × (read_as form_nf (replicate 34 0) ≡ Err ShortRecord)
+    × (read_as form_nf (replicate 35 0) ≡ Err OtherMark)
+    × (read_as form_nf (0x46 ∷ 0x4E ∷ replicate 33 0) ≡ Err OtherMark) × (read_as form_nf (0x4E ∷ 0x47 ∷ replicate 33 0) ≡ Err OtherMark)
+    × (read_as form_nf (0x4E ∷ 0x46 ∷ replicate 33 0) ≡ Err BrokenRule)
 unfolding read_as numbers_in value_of allowed
 refused_reads = (refl, refl, refl, refl, refl, refl)

@@ -1,10 +1,10 @@
 -- The bytes of a record, what bytes hold, and what a write leaves: over the form, a mark and how many bytes each field takes.
-use Rattle.std.specs.Prelude.{Bool, cond, ◌&&◌, List, [], ◌∷◌, ◌++◌, ℕ, ◌+◌, ltb, eqb, length, get_or, drop}
+use Rattle.std.specs.Prelude.{Bool, cond, ◌&&◌, List, [], ◌∷◌, ◌++◌, ℕ, ◌+◌, ltb, eqb, length, get_or, drop, Result, Ok, Err}
+use Rattle.numbers.specs.declared.Number.{Number}
+use Rattle.numbers.specs.declared.Number.TheVariants.{OtherMark, ShortRecord, BrokenRule}
 use Rattle.record.specs.Layout.{bytes_in, numbers_in, byte_sum}
 use Rattle.record.specs.Rule.{allowed}
 use Rattle.record.specs.declared.Record.{Record}
-use Rattle.record.specs.declared.Reading.{Reading}
-use Rattle.record.specs.declared.Reading.TheVariants.{Given, Refused}
 
 -- ---- forms
 
@@ -68,9 +68,9 @@ marked f l = eqb (get_or l 0 0) 0x4E && eqb (get_or l 1 0) f.letter
 abbrev pub record_in : Form → List ℕ → Record
 record_in f l = record_of (numbers_in f.field_bytes (drop 2 l))
 
-abbrev pub judged : Record → Reading
-judged r = cond (allowed r) (Given r) (Refused 19)
+abbrev pub judged : Record → Result Record Number
+judged r = cond (allowed r) (Ok r) (Err BrokenRule)
 
 -- 18, then 17, then 19; else the record
-unfoldable pub read_as : Form → List ℕ → Reading
-read_as f l = cond (ltb (length l) (size_of f)) (Refused 18) (cond (marked f l) (judged (record_in f l)) (Refused 17))
+unfoldable pub read_as : Form → List ℕ → Result Record Number
+read_as f l = cond (ltb (length l) (size_of f)) (Err ShortRecord) (cond (marked f l) (judged (record_in f l)) (Err OtherMark))

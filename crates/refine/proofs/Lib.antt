@@ -1,2 +1,3 @@
--- What the definitions say, read back.
+-- What the definitions say, read back; and a law of numbers.
 pub mod Laws
+pub mod Numbers

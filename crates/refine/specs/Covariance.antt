@@ -1,12 +1,12 @@
 -- A position covariance: its three entries, the sum of two, and the refusal of one that is not finite.
-use Rattle.std.specs.Prelude.{ℕ, Bool, cond, ◌&&◌, Float}
+use Rattle.std.specs.Prelude.{Bool, cond, ◌&&◌, Float, Result, Ok, Err}
 use Rattle.std.specs.Float.Ieee
 use Rattle.std.specs.Float.{binary32}
+use Rattle.numbers.specs.declared.Number.{Number}
+use Rattle.numbers.specs.declared.Number.TheVariants.{NotFinite}
 use Rattle.ieee.specs.Numbers.{plus_zero}
 use Rattle.ieee.specs.Order.{finite}
 use Rattle.refine.specs.declared.PositionCovariance.{PositionCovariance}
-use Rattle.refine.specs.declared.Judged.{Judged}
-use Rattle.refine.specs.declared.Judged.TheVariants.{Covariance, Refused}
 
 abbrev pub covariance : Float → Float → Float → PositionCovariance
 covariance xx xy yy = record { xx = xx; xy = xy; yy = yy }
@@ -23,17 +23,10 @@ abbrev pub all_finite : PositionCovariance → Bool
 all_finite c = (finite c.xx && finite c.xy) && finite c.yy
 
 -- 13: an entry is not finite
-abbrev pub judged : PositionCovariance → Judged
-judged c = cond (all_finite c) (Covariance c) (Refused 13)
+abbrev pub judged : PositionCovariance → Result PositionCovariance Number
+judged c = cond (all_finite c) (Ok c) (Err NotFinite)
 
--- ---- what the desk reads of an answer
-
--- the number: 0 where there is a covariance
-abbrev pub number : Judged → ℕ
-number (Covariance c) = 0
-number (Refused n) = n
-
--- the figures: zeros where there is none
-abbrev pub figures : Judged → PositionCovariance
-figures (Covariance c) = c
-figures (Refused n) = zeros
+-- what the desk reads as figures beside an answer's number: zeros where there are none
+abbrev pub figures : Result PositionCovariance Number → PositionCovariance
+figures (Ok c) = c
+figures (Err why) = zeros

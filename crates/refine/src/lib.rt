@@ -4,8 +4,11 @@
 ghost use Rattle.std.specs.Prelude.{◌≡◌};
 ghost use Rattle.refine.specs.Covariance.{covariance, add_covariance, all_finite, judged};
 
+use numbers::Number;
+use std::ops::Add;
+
 // Symmetric 2 by 2 covariance of a refined corner position.
-#[derive(Clone, Copy)]
+#[derive(Clone, Copy, Debug, PartialEq)]
 pub struct PositionCovariance {
     // Variance of the x coordinate.
     pub xx: f32,
@@ -13,13 +16,6 @@ pub struct PositionCovariance {
     pub xy: f32,
     // Variance of the y coordinate.
     pub yy: f32,
-}
-
-// A covariance, or the number that says why there is none.
-#[derive(Drop)]
-pub enum Judged {
-    Covariance(PositionCovariance),
-    Refused(u32),
 }
 
 impl PositionCovariance {
@@ -36,21 +32,25 @@ impl PositionCovariance {
         float::is_finite32(self.xx) & float::is_finite32(self.xy) & float::is_finite32(self.yy)
     }
 
-    // Itself where every entry is finite, and 13 otherwise.
-    pub fn finite(self) -> Judged
+    // Itself where every entry is finite.
+    pub fn finite(self) -> Result<Self, Number>
         ensures { result ≡ judged self }
     {
         if self.is_finite() {
-            Judged::Covariance(self)
+            Ok(self)
         } else {
-            Judged::Refused(13)
+            Err(Number::NotFinite)
         }
     }
+}
 
-    // The covariance of the sum of two independent errors.
-    pub fn add(self, other: Self) -> Self
-        ensures { result ≡ add_covariance self other }
-    {
+// The covariance of the sum of two independent errors.
+impl Add for PositionCovariance {
+    type Output = Self;
+
+    ghost add_gives = { λ c d sum. sum ≡ add_covariance c d };
+
+    fn add(self, other: Self) -> Self {
         Self::new(self.xx + other.xx, self.xy + other.xy, self.yy + other.yy)
     }
 }

@@ -15,8 +15,7 @@ fn root(m: u64, n: u64) -> u64
     let mut rest: u64 = m;
     let mut q: u64 = 0;
     let mut over: u64 = 0;
-    let mut i: u64 = 0;
-    while i < n {
+    for _i in 0..n {
         let d = over * 4 + rest / 0x10_0000_0000_0000;
         rest = rest % 0x10_0000_0000_0000 * 4;
         if d > q * 4 {
@@ -26,7 +25,6 @@ fn root(m: u64, n: u64) -> u64
             over = d;
             q = q * 2;
         }
-        i += 1;
     }
     if over > q { q + 1 } else { q }
 }
@@ -79,7 +77,7 @@ fn scaled(a: u64) -> Parts
     let field = a / 0x10_0000_0000_0000;
     let low = a % 0x10_0000_0000_0000;
     if field == 0 {
-        let up = (u64::leading_zeros(low) as u64) - 11;
+        let up = (low.leading_zeros() as u64) - 11;
         Parts {
             digits: low * convert::pow2(up),
             e: 52 - up,
@@ -116,7 +114,7 @@ pub fn sqrt64(x: f64) -> f64
     f64::from_bits((h + 485) * 0x10_0000_0000_0000 + root(m, 53))
 }
 
-// f32::sqrt, as sqrt64 of x as an f64, with 24 digits.
+// f32::sqrt, as sqrt64 of x as an f64, with 24 digits. One generic call for both would be no plainer: this one begins with a guess.
 pub fn sqrt32(x: f32) -> f32
     ensures { result ≡ sqrt binary32 x }
 {

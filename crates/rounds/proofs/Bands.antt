@@ -4,52 +4,50 @@ use mathlib.Core.Bool.{Bool, true, false, cond, not, ◌&&◌}
 use mathlib.Core.List.{List}
 use Prim.Native.Nat.{ℕ, zero, suc, ◌+◌, ◌-◌, ◌≤◌, ◌<◌, min}
 use native.Mathlib.Omega.{arith}
-use native.Mathlib.Nat.{le_antisymm}
 use native.Mathlib.Numerals.{add-one}
 use lib.Dec.{ltb}
+use Rattle.std.specs.Prelude.{Option, Some, None}
 use lib.ListN.{length, get_or, drop, length-take, length-drop}
 use lib.Ieee.{Float, binary64, add, mul, lt}
-use borrow.Author.Tests.{lt-ltb, le-ltb, lt-leb, le-leb}
+use borrow.Author.Tests.{lt-ltb, lt-leb, le-leb}
 use Rattle.ieee.specs.Order.{larger}
-use Rattle.laws.proofs.Choice.{chosen, passed}
+use Rattle.laws.proofs.Choice.{chosen}
 use Rattle.sums.specs.Numbers.{rounding_op_var}
-use Rattle.sums.specs.Admitted.{total_with}
 use Rattle.rounds.specs.Numbers.{max_band_ratio}
 use Rattle.sums.specs.Start.{start}
-use Rattle.rounds.specs.Rounds.{settle, band_total, min_band_samples, judged_band, band_by, band_variance, part, band, Bands, bands_total, image_total, image_variance}
+use Rattle.rounds.specs.Rounds.{settle, band_total, min_band_samples, found_at, judged_band, band_by, band_variance, part, band, Bands, bands_total}
 use Rattle.sums.specs.declared.Total.{Total}
 use Rattle.rounds.specs.declared.Settled.{Settled}
 use Rattle.rounds.specs.declared.Found.{Found}
-use Rattle.rounds.specs.declared.Found.TheVariants.{Variance, Missing}
 use Rattle.rounds.specs.declared.BandVariance.{BandVariance}
 use Rattle.sums.proofs.Sums.{admitted_few}
 
 -- ---- whether a variance counts
 
 module _ (s : Settled) (image : Float) where
-  abbrev found : Found
-  found = Variance s.n s.var
+  abbrev found : Option Found
+  found = Some (found_at s.n s.var)
 
-  pub judged_few : s.n < min_band_samples → Missing ≡ judged_band s image
+  pub judged_few : s.n < min_band_samples → None ≡ judged_band s image
   unfolding judged_band
   judged_few h =
-      sym (ap (λ (x : Bool). cond (x && not (lt (mul binary64 max_band_ratio (larger image rounding_op_var)) s.var)) found Missing) (lt-leb min_band_samples s.n h))
+      sym (ap (λ (x : Bool). cond (x && not (lt (mul binary64 max_band_ratio (larger image rounding_op_var)) s.var)) found None) (lt-leb min_band_samples s.n h))
 
   module _ (h : min_band_samples ≤ s.n) {m : Float} (e : m ≡ larger image rounding_op_var) where
-    by_ratio : cond (not (lt (mul binary64 max_band_ratio m) s.var)) found Missing ≡ judged_band s image
+    pub by_ratio : cond (not (lt (mul binary64 max_band_ratio m) s.var)) found None ≡ judged_band s image
     unfolding judged_band
     by_ratio =
-        ap (λ (x : Float). cond (not (lt (mul binary64 max_band_ratio x) s.var)) found Missing) e
-        ∙ sym (ap (λ (x : Bool). cond (x && not (lt (mul binary64 max_band_ratio (larger image rounding_op_var)) s.var)) found Missing) (le-leb min_band_samples s.n h))
+        ap (λ (x : Float). cond (not (lt (mul binary64 max_band_ratio x) s.var)) found None) e
+        ∙ sym (ap (λ (x : Bool). cond (x && not (lt (mul binary64 max_band_ratio (larger image rounding_op_var)) s.var)) found None) (le-leb min_band_samples s.n h))
 
-    pub judged_high : lt (mul binary64 max_band_ratio m) s.var ≡ true → Missing ≡ judged_band s image
-    judged_high t = sym (ap (λ (x : Bool). cond (not x) found Missing) t) ∙ by_ratio
+    pub judged_high : lt (mul binary64 max_band_ratio m) s.var ≡ true → None ≡ judged_band s image
+    judged_high t = sym (ap (λ (x : Bool). cond (not x) found None) t) ∙ by_ratio
 
     pub judged_good : lt (mul binary64 max_band_ratio m) s.var ≡ false → found ≡ judged_band s image
-    judged_good t = sym (ap (λ (x : Bool). cond (not x) found Missing) t) ∙ by_ratio
+    judged_good t = sym (ap (λ (x : Bool). cond (not x) found None) t) ∙ by_ratio
 
 abbrev none : BandVariance
-none = record { found = Missing; rounds = 0 }
+none = record { found = None; rounds = 0 }
 
 module _ (g o : List Float) (image : Float) where
   abbrev by_rounds : BandVariance
@@ -58,16 +56,6 @@ module _ (g o : List Float) (image : Float) where
   pub variance_few : length g < min_band_samples → none ≡ band_variance g o image
   unfolding band_variance
   variance_few h = chosen (ltb (length g) min_band_samples) none by_rounds (lt-ltb (length g) min_band_samples h)
-
-  pub variance_is : min_band_samples ≤ length g → {v : Float} → v ≡ start g o → {s : Settled} → s ≡ settle (band_total g o) v
-      → {f : Found} → f ≡ judged_band s image → ◌≡◌ {A = BandVariance} (record { found = f; rounds = s.rounds }) (band_variance g o image)
-  unfolding band_variance
-  variance_is h {v} p {s} q {f} e =
-      ap (λ (x : Found). with_found_lem x) e ∙ ap (λ (x : Settled). band_by x image) (q ∙ ap (settle (band_total g o)) p)
-      ∙ passed (ltb (length g) min_band_samples) none by_rounds (le-ltb (length g) min_band_samples h)
-    where
-      with_found_lem : Found → BandVariance
-      with_found_lem x = record { found = x; rounds = s.rounds }
 
 -- ---- parts
 
@@ -128,12 +116,3 @@ module _ {g o : List Float} {starts : List ℕ} {var s : Float} {n b : ℕ} (j :
   pub joined_few : Bands g o starts → b < 4 → {k : Total} → k ≡ next_band → n + k.n ≤ length g
   joined_few B h {k} e =
       omega (arith, (joined_more h e).count, bands_few B var (b + 1) (omega arith), within B (b + 1) (omega arith))
-
-  pub joined_end : 4 ≤ b → total_with n s ≡ image_total g o starts var
-  unfolding image_total
-  joined_end h =
-      ap (λ (x : ℕ). total_with x s) j.count ∙ ap (total_with (bands_total g o starts var b).n) j.sum ∙ ap (bands_total g o starts var) (le_antisymm j.low h)
-
-pub image_is : (g o : List Float) (starts : List ℕ) {r : Settled} → r ≡ settle (image_total g o starts) (start g o) → r ≡ image_variance g o starts
-unfolding image_variance
-image_is g o starts e = e

@@ -1,18 +1,18 @@
 -- What the loops of the rounds keep, for any windows and any number of rounds. Assumes nothing.
 use mathlib.Core.Path.{◌≡◌, refl, sym, ap, ◌∙◌, subst}
-use mathlib.Core.Bool.{Bool, true, false, cond, ◌||◌}
+use mathlib.Core.Bool.{Bool, true, false, ◌||◌}
 use Prim.Native.Nat.{ℕ, suc, ◌+◌, ◌-◌, ◌≤◌, ◌<◌}
 use native.Mathlib.Omega.{arith}
 use lib.Dec.{eqb}
+use Rattle.std.specs.declared.ops.ControlFlow.TheVariants.{Break, Continue}
 use lib.Ieee.{Float, binary64, sub, mul, le}
 use borrow.Author.Tests.{eq-eqb, ne_eqb}
-use Rattle.laws.proofs.Choice.{chosen, passed, cond_both}
+use Rattle.laws.proofs.Choice.{cond_both}
 use Rattle.ieee.specs.Order.{magnitude}
 use Rattle.sums.specs.declared.Total.{Total}
 use Rattle.rounds.specs.Numbers.{settled_fraction}
-use Rattle.rounds.specs.Rounds.{next, near, settled_at, round_of, one_round, rounds_from, max_rounds, start_at, settle}
+use Rattle.rounds.specs.Rounds.{next, near, settled_at, Round, round_of, ended, one_round, followed, rounds_from, max_rounds, start_at, settle}
 use Rattle.rounds.specs.declared.Settled.{Settled}
-use Rattle.rounds.specs.declared.Round.{Round}
 
 -- at most 12
 pub max_rounds_is : max_rounds ≡ 12
@@ -34,9 +34,13 @@ module _ (n prev : ℕ) (new var : Float) where
   unfolding near
   near_moved h = sym (ap (λ (x : Bool). x || moved) (ne_eqb n prev h))
 
+pub ended_is : (s : Settled) (last : Bool) → ended (round_of s last) ≡ s
+ended_is s true = refl
+ended_is s false = refl
+
 module _ (k : Total) (s : Settled) where
   abbrev none : Round
-  none = round_of (settled_at 0 s.var (s.rounds + 1)) true
+  none = Break (settled_at 0 s.var (s.rounds + 1))
 
   abbrev some : Round
   some = round_of (settled_at k.n (next k) (s.rounds + 1)) (near k.n s.n (next k) s.var)
@@ -46,21 +50,15 @@ module _ (k : Total) (s : Settled) where
   unfolding one_round
   round_both P x y = cond_both P (eqb k.n 0) none some x y
 
-  pub round_none : k.n ≡ 0 → none ≡ one_round k s
-  unfolding one_round
-  round_none z = chosen (eqb k.n 0) none some (eq-eqb k.n 0 z)
-
-  pub round_some : (k.n ≡ 0 → ⊥) → {new : Float} → new ≡ next k → {b : Bool} → b ≡ near k.n s.n new s.var
-      → round_of (settled_at k.n new (s.rounds + 1)) b ≡ one_round k s
-  unfolding one_round
-  round_some z {new} q {b} w =
-      ap (round_of (settled_at k.n new (s.rounds + 1))) w
-      ∙ ap (λ (x : Float). round_of (settled_at k.n x (s.rounds + 1)) (near k.n s.n x s.var)) q
-      ∙ passed (eqb k.n 0) none some (ne_eqb k.n 0 z)
-
   -- each round is counted
-  pub round_counted : (one_round k s).settled.rounds ≡ s.rounds + 1
-  round_counted = round_both (λ (t : Round). t.settled.rounds ≡ s.rounds + 1) refl refl
+  pub round_counted : (ended (one_round k s)).rounds ≡ s.rounds + 1
+  round_counted =
+      round_both (λ (t : Round). (ended t).rounds ≡ s.rounds + 1) refl
+      (ap (λ (x : Settled). x.rounds) (ended_is (settled_at k.n (next k) (s.rounds + 1)) (near k.n s.n (next k) s.var)))
+
+-- where one more round follows, it is counted too
+pub counted : (k : Total) (s : Settled) {t : Round} {x : Settled} → t ≡ Continue x → t ≡ one_round k s → x.rounds ≡ s.rounds + 1
+counted k s l w = ap (λ (r : Round). (ended r).rounds) (sym l ∙ w) ∙ round_counted k s
 
 -- ---- the loop: of N rounds at most, those that ended at s are evaluated and the others still to come
 
@@ -71,7 +69,7 @@ pub record Turning (N : ℕ) (f : Float → Total) (start : Float) (s : Settled)
 module _ {N : ℕ} {f : Float → Total} {start : Float} {s : Settled} (i : Turning N f start s) (h : s.rounds < N)
     {k : Total} (e : k ≡ f s.var) {t : Round} (w : t ≡ one_round k s) where
   abbrev after : Round → Settled
-  after x = cond x.last x.settled (rounds_from f (N - (s.rounds + 1)) x.settled)
+  after x = followed (rounds_from f (N - (s.rounds + 1))) x
 
   this_round : after t ≡ rounds_from f N (start_at start)
   this_round =
@@ -80,18 +78,14 @@ module _ {N : ℕ} {f : Float → Total} {start : Float} {s : Settled} (i : Turn
       fewer : (N r : ℕ) → r < N → suc (N - (r + 1)) ≡ N - r
       fewer N r h = omega arith
 
-  pub turning_last : t.last ≡ true → t.settled ≡ rounds_from f N (start_at start)
-  turning_last l = chosen t.last t.settled (rounds_from f (N - (s.rounds + 1)) t.settled) l ∙ this_round
+  pub turning_last : {x : Settled} → t ≡ Break x → x ≡ rounds_from f N (start_at start)
+  turning_last l = ap after (sym l) ∙ this_round
 
-  pub turning_counted : t.settled.rounds ≡ s.rounds + 1
-  turning_counted = ap (λ (x : Round). x.settled.rounds) w ∙ round_counted k s
-
-  pub turning_more : t.last ≡ false → Turning N f start t.settled
-  turning_more l =
+  pub turning_more : {x : Settled} → t ≡ Continue x → Turning N f start x
+  turning_more {x} l =
       record {
-        low = omega (arith, turning_counted);
-        left = ap (λ (x : ℕ). rounds_from f (N - x) t.settled) turning_counted
-            ∙ passed t.last t.settled (rounds_from f (N - (s.rounds + 1)) t.settled) l ∙ this_round;
+        low = omega (arith, counted k s l w);
+        left = ap (λ (r : ℕ). rounds_from f (N - r) x) (counted k s l w) ∙ ap after (sym l) ∙ this_round;
       }
 
 pub turning_end : {N : ℕ} {f : Float → Total} {start : Float} {s : Settled} → Turning N f start s → N ≤ s.rounds → s ≡ rounds_from f N (start_at start)

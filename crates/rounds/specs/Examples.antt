@@ -1,5 +1,5 @@
 -- Worked examples: each tells its definition from one that takes another order, rounding, bound or constant.
-use Rattle.std.specs.Prelude.{◌≡◌, refl, true, false, cond, List, [], ◌∷◌, ℕ, Float}
+use Rattle.std.specs.Prelude.{◌≡◌, refl, true, false, cond, List, [], ◌∷◌, ℕ, Some, None, Float}
 use Rattle.std.specs.Float.{binary64}
 use Rattle.std.specs.Float.Ieee.{round, add, sub, mul, div, neg, lt, le, eq, is_nan, of_bits, of_int}
 use Rattle.ieee.specs.Convert.{convert}
@@ -10,9 +10,8 @@ use Rattle.quantile.specs.Quantile.{quiet}
 use Rattle.sums.specs.Admitted.{total_with, threshold, cut}
 use Rattle.sums.specs.Start.{mean, mean_quiet, start}
 use Rattle.sums.specs.declared.Total.{Total}
-use Rattle.rounds.specs.Rounds.{next, near, settled_at, round_of, one_round, max_rounds, settle, judged_band}
+use Rattle.rounds.specs.Rounds.{next, near, settled_at, round_of, one_round, max_rounds, settle, found_at, judged_band}
 use Rattle.rounds.specs.Rounds.{band_variance, image_total, image_variance}
-use Rattle.rounds.specs.declared.Found.TheVariants.{Variance, Missing}
 use Rattle.rounds.specs.declared.BandVariance.{BandVariance}
 
 -- n windows that sum to a whole number
@@ -75,9 +74,9 @@ twelve = refl
 -- ---- a band
 
 -- on 128 windows a variance counts, on 127 it does not; at 8 times the image's it counts, above it does not
-pub judgements : (judged_band (settled_at 128 (f64_of 800) 3) (f64_of 100) ≡ Variance 128 (f64_of 800))
-    × (judged_band (settled_at 127 (f64_of 800) 3) (f64_of 100) ≡ Missing)
-    × (judged_band (settled_at 128 (f64_of 801) 3) (f64_of 100) ≡ Missing)
+pub judgements : (judged_band (settled_at 128 (f64_of 800) 3) (f64_of 100) ≡ Some (found_at 128 (f64_of 800)))
+    × (judged_band (settled_at 127 (f64_of 800) 3) (f64_of 100) ≡ None)
+    × (judged_band (settled_at 128 (f64_of 801) 3) (f64_of 100) ≡ None)
 unfolding judged_band mul lt larger of_int round
 judgements = (refl, refl, refl)
 
@@ -85,8 +84,8 @@ judgements = (refl, refl, refl)
 abbrev least_image : Float
 least_image = round binary64 false 3200 12
 
-pub least_judgement : (judged_band (settled_at 128 least_image 3) (f64_of 0) ≡ Variance 128 least_image)
-    × (judged_band (settled_at 128 (of_bits binary64 0x4070_AAAA_AAAA_AAAC) 3) (f64_of 0) ≡ Missing)
+pub least_judgement : (judged_band (settled_at 128 least_image 3) (f64_of 0) ≡ Some (found_at 128 least_image))
+    × (judged_band (settled_at 128 (of_bits binary64 0x4070_AAAA_AAAA_AAAC) 3) (f64_of 0) ≡ None)
 unfolding judged_band mul lt larger of_bits of_int round
 least_judgement = (refl, refl)
 
@@ -94,11 +93,11 @@ least_judgement = (refl, refl)
 abbrev flat_band : ℕ → BandVariance
 flat_band n = band_variance (from (λ (k : ℕ). f64_of 0) 0 n) (from (λ (k : ℕ). f64_of 0) 0 n) (f64_of 0)
 
-pub few_windows : flat_band 127 ≡ record { found = Missing; rounds = 0 }
+pub few_windows : flat_band 127 ≡ record { found = None; rounds = 0 }
 unfolding band_variance
 few_windows = refl
 
-pub enough_windows : flat_band 128 ≡ record { found = Variance 128 (f64_of 0); rounds = 1 }
+pub enough_windows : flat_band 128 ≡ record { found = Some (found_at 128 (f64_of 0)); rounds = 1 }
 unfolding band_variance judged_band settle max_rounds one_round next near start quiet mean_quiet mean threshold cut convert total_less negative is_nan larger
     magnitude sub neg add mul div lt le eq of_int round
 enough_windows = refl
@@ -109,8 +108,8 @@ abbrev same_outputs : Float → ℕ → Float → BandVariance
 same_outputs first-gate output image =
     band_variance (first-gate ∷ from (λ (k : ℕ). f64_of 0) 0 127) (from (λ (k : ℕ). f64_of output) 0 128) image
 
-pub rounds_without_variance : (same_outputs (f64_of 0) 1000 (f64_of 100) ≡ record { found = Missing; rounds = 2 })
-    × (same_outputs (f64_of 1000) 10 (f64_of 100) ≡ record { found = Missing; rounds = 2 })
+pub rounds_without_variance : (same_outputs (f64_of 0) 1000 (f64_of 100) ≡ record { found = None; rounds = 2 })
+    × (same_outputs (f64_of 1000) 10 (f64_of 100) ≡ record { found = None; rounds = 2 })
 unfolding band_variance judged_band settle max_rounds one_round next near start quiet mean_quiet mean threshold cut convert total_less negative is_nan larger
     magnitude sub neg add mul div lt le eq of_int round
 rounds_without_variance = (refl, refl)

@@ -1,5 +1,7 @@
 -- The rounds of the image and of a band: noise.rs, `Sample::image_variance` and `Band::variance`; document 01, "Rounds".
-use Rattle.std.specs.Prelude.{◌≡◌, Bool, true, cond, not, ◌&&◌, ◌||◌, List, ℕ, zero, suc, ◌+◌, ◌-◌, ◌≤◌, ◌<◌, eqb, ltb, leb, length, get_or, take, drop, Float}
+use Rattle.std.specs.Prelude.{◌≡◌, Bool, cond, not, ◌&&◌, ◌||◌, List, ℕ, zero, suc, ◌+◌, ◌-◌, ◌≤◌, ◌<◌, eqb, ltb, leb, length, get_or, take, drop, Option, Some, None, Float}
+use Rattle.std.specs.declared.ops.ControlFlow.{ControlFlow}
+use Rattle.std.specs.declared.ops.ControlFlow.TheVariants.{Break, Continue}
 use Rattle.std.specs.Float.{binary64}
 use Rattle.std.specs.Float.Ieee.{add, sub, mul, div, lt, le}
 use Rattle.ieee.specs.Order.{larger, magnitude}
@@ -10,9 +12,7 @@ use Rattle.sums.specs.Admitted.{total_with, no_total, admitted_at}
 use Rattle.sums.specs.Start.{start}
 use Rattle.sums.specs.declared.Total.{Total}
 use Rattle.rounds.specs.declared.Settled.{Settled}
-use Rattle.rounds.specs.declared.Round.{Round}
 use Rattle.rounds.specs.declared.Found.{Found}
-use Rattle.rounds.specs.declared.Found.TheVariants.{Variance, Missing}
 use Rattle.rounds.specs.declared.BandVariance.{BandVariance}
 
 -- ---- rounds over any windows, where `f v` is what a variance v admits of them
@@ -28,20 +28,33 @@ near n prev new var = eqb n prev || le (magnitude (sub binary64 new var)) (mul b
 abbrev pub settled_at : ℕ → Float → ℕ → Settled
 settled_at n var r = record { n = n; var = var; rounds = r }
 
+-- a round breaks where it is the last one, and goes on otherwise
+abbrev pub Round : Type 0
+Round = ControlFlow Settled Settled
+
 abbrev pub round_of : Settled → Bool → Round
-round_of s last = record { settled = s; last = last }
+round_of s last = cond last (Break s) (Continue s)
+
+-- where it ends
+abbrev pub ended : Round → Settled
+ended (Break s) = s
+ended (Continue s) = s
 
 -- one round that admits k, after those that ended at s: it is the last where it admits none or settles
 unfoldable pub one_round : Total → Settled → Round
 one_round k s =
-    cond (eqb k.n 0) (round_of (settled_at 0 s.var (s.rounds + 1)) true)
+    cond (eqb k.n 0) (Break (settled_at 0 s.var (s.rounds + 1)))
     (round_of (settled_at k.n (next k) (s.rounds + 1)) (near k.n s.n (next k) s.var))
+
+-- what follows a round, where it is not the last one
+abbrev pub followed : (Settled → Settled) → Round → Settled
+followed more (Break s) = s
+followed more (Continue s) = more s
 
 -- at most `left` rounds more, after those that ended at s
 abbrev pub rounds_from : (Float → Total) → ℕ → Settled → Settled
 rounds_from f zero s = s
-rounds_from f (suc left) s =
-    cond (one_round (f s.var) s).last (one_round (f s.var) s).settled (rounds_from f left (one_round (f s.var) s).settled)
+rounds_from f (suc left) s = followed (rounds_from f left) (one_round (f s.var) s)
 
 -- ROUNDS
 unfoldable pub max_rounds : ℕ
@@ -63,11 +76,14 @@ band_total g o var = admitted_at g o var var
 abbrev pub min_band_samples : ℕ
 min_band_samples = 128
 
+abbrev pub found_at : ℕ → Float → Found
+found_at n var = record { n = n; var = var }
+
 -- a variance counts where it rests on 128 windows and is not above 8 times the image's
-unfoldable pub judged_band : Settled → Float → Found
+unfoldable pub judged_band : Settled → Float → Option Found
 judged_band s image =
     cond (leb min_band_samples s.n && not (lt (mul binary64 max_band_ratio (larger image rounding_op_var)) s.var))
-    (Variance s.n s.var) Missing
+    (Some (found_at s.n s.var)) None
 
 abbrev pub band_by : Settled → Float → BandVariance
 band_by s image = record { found = judged_band s image; rounds = s.rounds }
@@ -75,7 +91,7 @@ band_by s image = record { found = judged_band s image; rounds = s.rounds }
 -- a band under 128 windows has no variance and no rounds
 unfoldable pub band_variance : List Float → List Float → Float → BandVariance
 band_variance g o image =
-    cond (ltb (length g) min_band_samples) (record { found = Missing; rounds = 0 })
+    cond (ltb (length g) min_band_samples) (record { found = None; rounds = 0 })
     (band_by (settle (band_total g o) (start g o)) image)
 
 -- ---- the image: four bands one after the other, band b from start b to start (b + 1)

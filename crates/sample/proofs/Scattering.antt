@@ -11,8 +11,9 @@ use Rattle.measure.specs.Columns.{figure_in, figures_in}
 use Rattle.band.specs.Bands.{rail, band_of, of_band, count_of, banded, kept_of}
 use Rattle.band.specs.declared.Sample.{Sample}
 use Rattle.sample.specs.Laid.{gate32, square32, laid_in}
-use Rattle.measure.proofs.Rows.{map_append}
-use Rattle.band.proofs.Counting.{kept_sum, kept_most, Counts}
+use Rattle.sample.specs.Loops.{Layable}
+use Rattle.std.proofs.lemmas.List.{map-append}
+use Rattle.band.proofs.Counting.{kept_sum, kept_most, Counts, counts}
 use Rattle.sample.proofs.Segments.{Segment, segment_start, segment_put, segment_keep, segment_end}
 
 -- ---- the windows of a band, one window at a time
@@ -173,7 +174,7 @@ module _ {φ : WindowStats → Float} {a t : ℕ} {l : List ℤ} {out : List Flo
       ∙ ap (λ (x : List Float). map φ (of_band b fs) ++ take (length later) x) (drop-drop (count_of b fs) (a + start_of fs b) out)
       ∙ ap (λ (m : ℕ). map φ (of_band b fs) ++ take (length later) (drop m out)) (over a (start_of fs b) (count_of b fs))
       ∙ ap (λ (x : List Float). map φ (of_band b fs) ++ x) (bands g (suc b) n (omega arith))
-      ∙ sym (map_append φ (of_band b fs) later)
+      ∙ sym (map-append φ (of_band b fs) later)
     where
       over : (a b c : ℕ) → a + b + c ≡ a + (b + c)
       over a b c = omega arith
@@ -281,7 +282,10 @@ scatter_end {t} {l} {old} {new} {next} {k} i g =
     ∙ ap (λ (x : List Float). map gate32 (banded fs) ++ (take 1 (drop n old) ++ (x ++ drop (2 * n + 1) new))) (half_end i.squares g)
     ∙ ap (λ (x : List Float). map gate32 (banded fs) ++ (take 1 (drop n old) ++ (map square32 (banded fs) ++ x))) i.beyond
 
--- there is room for what is kept
-pub kept_room : (t : ℕ) (l : List ℤ) (old : List Float) → 2 * t + 2 ≤ length old → (kept_of (figures_in t l) ≤ t) × (2 * kept_of (figures_in t l) + 2 ≤ length old)
+-- there is room for what is kept, the sum of a sample's counts
+pub kept_room : (t : ℕ) (l : List ℤ) (s : Sample) (old : List Float) → Layable t l s old
+    → (s.b0 + s.b1 + s.b2 + s.b3 ≡ kept_of (figures_in t l)) × (kept_of (figures_in t l) ≤ t) × (2 * kept_of (figures_in t l) + 2 ≤ length old)
 unfolding figures_in
-kept_room t l old h = omega (arith, kept_most (figures_in t l), length_from (figure_in t l) 0 t)
+kept_room t l s old r =
+    let fs = figures_in t l in
+    (kept_by_lem s fs (counts s fs r.counted), omega (arith, kept_most fs, length_from (figure_in t l) 0 t), omega (arith, r.room, kept_most fs, length_from (figure_in t l) 0 t))

@@ -25,7 +25,7 @@ squares_of fs = map square32 (banded fs)
 unfoldable pub laid_in : List WindowStats → List Float → List Float
 laid_in fs old = gates_of fs ++ (take 1 (drop (kept_of fs) old) ++ (squares_of fs ++ drop (2 * kept_of fs + 1) old))
 
--- what a pass takes: an image, and room for its T windows in both slices
+-- what a pass takes beside its sides: the pixels, and room for its T windows in both slices
 pub record Collectable (img : List ℕ) (w h windows : ℕ) (ints : List ℤ) (floats : List Float) : Type 0 where
   pub measurable : Measurable img w h windows ints
   pub room : 2 * total_of w h windows + 2 ≤ length floats

@@ -9,11 +9,13 @@ ghost use Rattle.sample.specs.Laid.{laid_in, Collectable};
 ghost use Rattle.sample.specs.Loops.{laid_at, Layable};
 
 use band::Sample;
+use grid::Grid;
 
 // How many numbers of a window the i32 slice holds: sum, gate, operator output.
 pub const COLUMNS: usize = 3;
 
-// Window k's gate, rounded once, at place i of floats, and its output, squared, half further on.
+// Window k's gate, rounded once, at place i of floats, and its output, squared, half further on. The slice holds three columns of
+// t numbers, as C lends it; a struct of slice and t would be taken apart in each of these calls.
 fn lay(ints: &[i32], t: usize, k: usize, floats: &mut [f32], i: usize, half: usize)
     requires { (column_count * t ≤ length ints.now) × (k < t) × (half + i < length floats.old) }
     ensures { floats.new ≡ laid_at (figure_in t ints.now k) i half floats.old }
@@ -30,40 +32,27 @@ pub fn scatter(ints: &[i32], t: usize, s: Sample, floats: &mut [f32])
     requires { Layable t ints.now s floats.old }
     ensures { floats.new ≡ laid_in (figures_in t ints.now) floats.old }
 {
-    let b0 = s.b0;
-    let b1 = s.b1;
-    let b2 = s.b2;
-    let b3 = s.b3;
-    let kept = b0 + b1 + b2 + b3;
-    let mut next = [0, b0, b0 + b1, b0 + b1 + b2];
-    let mut k = 0;
-    while k < t {
-        let sum = ints[k];
-        let b = band::band(sum);
-        if b < band::BANDS {
+    let e1 = s.b0 + s.b1;
+    let e2 = e1 + s.b2;
+    let kept = e2 + s.b3;
+    let mut next = [0, s.b0, e1, e2];
+    for k in 0..t {
+        if let Some(b) = band::band(ints[k]) {
             let i = next[b];
             lay(ints, t, k, floats, i, kept + 1);
             next[b] = i + 1;
         }
-        k += 1;
     }
 }
 
 // One pass: the windows of the grid measured into ints, counted, and the kept ones laid into floats.
-pub fn collect(
-    img: &[u8],
-    w: usize,
-    h: usize,
-    windows: usize,
-    ints: &mut [i32],
-    floats: &mut [f32],
-) -> Sample
-    requires { Collectable img.now w h windows ints.old floats.old }
-    ensures { (result ≡ sample_of (figures_of img.now w h windows))
-        × (ints.new ≡ columns_in (figures_of img.now w h windows) ints.old)
-        × (floats.new ≡ laid_in (figures_of img.now w h windows) floats.old) }
+pub fn collect(img: &[u8], grid: Grid, ints: &mut [i32], floats: &mut [f32]) -> Sample
+    requires { Collectable img.now grid.w grid.h grid.windows ints.old floats.old }
+    ensures { (result ≡ sample_of (figures_of img.now grid.w grid.h grid.windows))
+        × (ints.new ≡ columns_in (figures_of img.now grid.w grid.h grid.windows) ints.old)
+        × (floats.new ≡ laid_in (figures_of img.now grid.w grid.h grid.windows) floats.old) }
 {
-    let t = measure::measure(img, w, h, windows, ints);
+    let t = measure::measure(img, grid, ints);
     let s = band::count(ints, t);
     scatter(ints, t, s, floats);
     s

@@ -1,7 +1,7 @@
 // The mean of the roots of the largest of 81 squared gradients, halved: uncertainty.rs, part of `PixelTile::edge_width`.
 #![tactic(auto)]
 
-ghost use Rattle.std.specs.Prelude.{◌≡◌, map, T, length, drop};
+ghost use Rattle.std.specs.Prelude.{◌≡◌, map, T, drop};
 ghost use Rattle.std.specs.Float.{binary32};
 ghost use Rattle.ieee.specs.Sqrt.{sqrt};
 ghost use Rattle.quantile.specs.Rising.{inserted, Rises};
@@ -10,7 +10,7 @@ ghost use Rattle.levels.specs.Levels.{summed};
 ghost use Rattle.steepness.specs.Steepness as Steepness;
 ghost use Rattle.steepness.specs.Slide as Slide;
 
-// The larger of v and y.
+// The larger of v and y, by one comparison: f32's `max` makes a second, for NaN, in the inner loop.
 fn greater(v: f32, y: f32) -> f32
     ensures { result ≡ Slide.greater v y }
 {
@@ -25,60 +25,50 @@ fn middle(v: f32, y: f32, x: f32) -> f32
     if v < x { most } else { x }
 }
 
-// v among the eight largest so far, which rise; the smallest falls out. One jump turns on the numbers.
+// v among the eight largest so far, which rise; the smallest falls out. One jump turns on the numbers. It is no instance of
+// quantile's `insert`, which keeps the least and jumps at each place.
+#[tactic(auto, using(crate::proofs::Largests::stay, crate::proofs::Largests::slide_start))]
 fn insert(top: &mut [f32; 8], v: f32)
-    requires { (length top.old ≡ 8) × AllClear top.old × T (clear v) × Rises top.old }
+    requires { AllClear top.old × T (clear v) × Rises top.old }
     ensures { top.new ≡ drop 1 (inserted v top.old) }
 {
     let first = top[0];
     if v < first {
         return;
     }
-    let mut j = 0;
-    while j < 7 {
-        let y = top[j];
-        let x = top[j + 1];
-        top[j] = middle(v, y, x);
-        j += 1;
+    for j in 0..7 {
+        top[j] = middle(v, top[j], top[j + 1]);
     }
-    let last = top[7];
-    top[7] = greater(v, last);
+    top[7] = greater(v, top[7]);
 }
 
 // The eight largest, the smallest of them first.
 fn largest(gradients: &[f32; 81]) -> [f32; 8]
-    requires { (length gradients.now ≡ 81) × AllClear gradients.now }
+    requires { AllClear gradients.now }
     ensures { result ≡ Steepness.largest gradients.now }
 {
     let mut top = [0.0f32; 8];
-    let mut m = 0;
-    while m < 81 {
-        let v = gradients[m];
-        insert(&mut top, v);
-        m += 1;
+    for v in gradients {
+        insert(&mut top, *v);
     }
     top
 }
 
 // The roots, added from the first on.
 fn add_roots(top: &[f32; 8]) -> f32
-    requires { length top.now ≡ 8 }
     ensures { result ≡ summed (map (sqrt binary32) top.now) }
 {
-    let mut sum = 0.0f32;
-    let mut k = 0;
-    while k < 8 {
-        sum = sum + roots::sqrt32(top[k]);
-        k += 1;
+    let mut sum = 0.0;
+    for x in top {
+        sum += roots::sqrt32(*x);
     }
     sum
 }
 
 // The gradient mean.
 pub fn steepness(gradients: &[f32; 81]) -> f32
-    requires { (length gradients.now ≡ 81) × AllClear gradients.now }
+    requires { AllClear gradients.now }
     ensures { result ≡ Steepness.steepness gradients.now }
 {
-    let top = largest(gradients);
-    0.5 * add_roots(&top) / 8.0
+    0.5 * add_roots(&largest(gradients)) / 8.0
 }

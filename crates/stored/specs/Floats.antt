@@ -1,11 +1,14 @@
 -- The float helpers by letter, from patterns to the pattern of the answer. All NaNs are one, written as the quiet one.
-use Rattle.std.specs.Prelude.{ℕ, ◌%◌, ◌^◌, Bool, cond, List, [], ◌∷◌, ltb, ℤ, pos, ◌-ℤ◌, get_or, Float}
+use Rattle.std.specs.Prelude.{◌≡◌, ℕ, ◌%◌, ◌^◌, ◌≤◌, Bool, cond, List, [], ◌∷◌, ltb, ℤ, pos, ◌-ℤ◌, get_or, Float, Result, MatchResult}
 use Rattle.std.specs.Float.{binary32, binary64}
 use Rattle.std.specs.Float.Ieee.{of_bits, to_bits}
 use Rattle.ieee.specs.Convert.{convert}
 use Rattle.ieee.specs.Floor.{floor}
 use Rattle.ieee.specs.Order.{larger, smaller, magnitude, finite, total_less}
 use Rattle.ieee.specs.Sqrt.{sqrt}
+use Rattle.stored.specs.declared.UnknownLetter.{UnknownLetter}
+use Rattle.stored.specs.declared.floats.Helper.{Helper}
+use Rattle.stored.specs.declared.floats.Helper.TheVariants.{Sqrt32, Sqrt64, ToF32, Floor32, Abs64, IsFinite32, Max32, Max64, Min32, TotalLess32, TotalLess64}
 
 abbrev pub single : ℕ → Float
 single a = of_bits binary32 (a % 2 ^ 32)
@@ -40,3 +43,25 @@ answers a b =
 -- a letter is 1 to 26 past a multiple of 32, small (97 to 122) or capital (65 to 90)
 unfoldable pub float_answer : ℕ → ℕ → ℕ → ℕ
 float_answer letter a b = get_or (answers a b) (letter % 32) 0
+
+-- a helper's place among the answers
+abbrev pub place : Helper → ℕ
+place Sqrt32 = 1
+place Sqrt64 = 2
+place ToF32 = 3
+place Floor32 = 4
+place Abs64 = 5
+place IsFinite32 = 6
+place Max32 = 7
+place Max64 = 8
+place Min32 = 9
+place TotalLess32 = 10
+place TotalLess64 = 11
+
+-- what a helper answers
+unfoldable pub helper_answer : Helper → ℕ → ℕ → ℕ
+helper_answer h a b = get_or (answers a b) (place h) 0
+
+-- r is the helper with the letter, small or capital, if there is one
+abbrev pub HasLetter : ℕ → Result Helper UnknownLetter → Type 0
+HasLetter letter r = MatchResult r (λ h. place h ≡ letter % 32) (λ _. 1 ≤ letter % 32 → 12 ≤ letter % 32)

@@ -1,5 +1,5 @@
 -- Lines of a list: a letter, columns of a blank and sixteen hexadecimal digits each, a line end.
-use Rattle.std.specs.Prelude.{ℕ, zero, suc, ◌+◌, ◌*◌, ◌/◌, ◌%◌, Bool, true, cond, ◌&&◌, ◌||◌, List, eqb, ltb, leb, length, get_or}
+use Rattle.std.specs.Prelude.{ℕ, zero, suc, ◌+◌, ◌*◌, ◌/◌, ◌%◌, ◌^◌, ◌-◌, Bool, true, cond, ◌&&◌, ◌||◌, List, Option, None, Some, eqb, ltb, leb, length, get_or}
 use Rattle.std.specs.Bool.{beq}
 use Rattle.stored.specs.Floats.{float_answer}
 
@@ -56,11 +56,16 @@ lines_of l columns = length l / line_bytes columns
 unfoldable pub hit_count : List ℕ → ℕ → ℕ → Bool → ℕ
 hit_count l columns letter good = hits l columns letter good (lines_of l columns)
 
--- the letter of line i; 0 where there is no such line, or it cannot be read
-unfoldable pub letter_at : List ℕ → ℕ → ℕ → ℕ
+-- the letter of line i, if there is such a line and it can be read
+unfoldable pub letter_at : List ℕ → ℕ → ℕ → Option ℕ
 letter_at l columns i =
-    cond (ltb i (lines_of l columns) && is_line l columns (i * line_bytes columns)) (get_or l (i * line_bytes columns) 0) 0
+    cond (ltb i (lines_of l columns) && is_line l columns (i * line_bytes columns)) (Some (get_or l (i * line_bytes columns) 0)) None
 
--- the number in column j of line i; 0 where there is none
-unfoldable pub number_at : List ℕ → ℕ → ℕ → ℕ → ℕ
-number_at l columns i j = cond (ltb i (lines_of l columns) && ltb j columns) (written l (i * line_bytes columns + j * 17 + 2) 16) 0
+-- the number in column j of line i, if there is one
+unfoldable pub number_at : List ℕ → ℕ → ℕ → ℕ → Option ℕ
+number_at l columns i j =
+    cond (ltb i (lines_of l columns) && ltb j columns) (Some (written l (i * line_bytes columns + j * 17 + 2) 16)) None
+
+-- byte k of columns that hold eight bytes each, the first in the highest place
+abbrev pub column_byte : List ℕ → ℕ → ℕ
+column_byte columns k = get_or columns (k / 8) 0 / 256 ^ (7 - k % 8) % 256

@@ -1,4 +1,4 @@
-// Lists of stored answers, read and judged.
+// Lists of stored answers, read, judged and replayed.
 //
 // A list is text. Each line has a letter that says which call it is, columns of sixteen hexadecimal digits, each after a blank,
 // and a line end. All lines of a list have the same number of columns. A line with any other byte cannot be read, and never agrees.
@@ -8,207 +8,312 @@
 
 pub mod floats;
 
-ghost use Rattle.std.specs.Prelude.{◌≡◌, ◌+◌, ◌*◌, ◌<◌, ◌≤◌, length};
+ghost use Rattle.std.specs.Prelude.{◌≡◌, ◌+◌, ◌-◌, ◌*◌, ◌<◌, ◌≤◌, ℕ, length, slice_index, MatchOption, IfOk};
+ghost use Rattle.std.specs.Iterator.{at_most};
 ghost use Rattle.stored.specs.Lines.{is_digit, is_letter, digit_value, written, line_bytes, belongs, is_line, agrees_at, hit_at};
-ghost use Rattle.stored.specs.Floats.{single, signed};
-ghost use Rattle.stored.specs.Lines.{hit_count, lines_of, letter_at, number_at};
+ghost use Rattle.stored.specs.Lines.{hit_count, lines_of, letter_at, number_at, column_byte};
 
+use floats::{Helper, Pattern};
+use std::fmt::Display;
 use std::io;
+
+// The longest list that is read, in bytes.
+pub const ROOM: usize = 65536;
+
+// A letter that stands for no call.
+#[derive(Clone, Copy, Debug, PartialEq, Eq)]
+pub struct UnknownLetter(pub u8);
+
+// A list of lines of N columns.
+#[derive(Clone, Copy)]
+pub struct List<'a, const N: usize> {
+    pub text: &'a [u8],
+    ghost narrow: { N < 256 },
+}
+
+// Line i of a list.
+#[derive(Clone, Copy)]
+pub struct Line<'a, const N: usize> {
+    pub list: List<'a, N>,
+    pub i: usize,
+    ghost there: { i < lines_of list.text.now N },
+}
 
 fn is_digit(c: u8) -> bool
     ensures { result ≡ is_digit c }
 {
-    ((48 <= c) & (c <= 57)) | ((97 <= c) & (c <= 102))
+    matches!(c, b'0'..=b'9' | b'a'..=b'f')
 }
 
 fn is_letter(c: u8) -> bool
     ensures { result ≡ is_letter c }
 {
-    ((65 <= c) & (c <= 90)) | ((97 <= c) & (c <= 122))
-}
-
-// Whether c may stand at place k of a line.
-fn is_placed(columns: u8, k: usize, c: u8) -> bool
-    ensures { result ≡ belongs columns k c }
-{
-    if k == 0 {
-        return is_letter(c);
-    }
-    if k == (columns as usize) * 17 + 1 {
-        return c == b'\n';
-    }
-    if k % 17 == 1 {
-        return c == b' ';
-    }
-    is_digit(c)
-}
-
-// Whether the bytes from place at on are a line.
-fn is_line(text: &[u8], columns: u8, at: usize) -> bool
-    requires { at + line_bytes columns ≤ length text.now }
-    ensures { result ≡ is_line text.now columns at }
-{
-    let width = width(columns);
-    let mut good = true;
-    let mut k = 0;
-    while k < width {
-        good = good & is_placed(columns, k, text[at + k]);
-        k += 1;
-    }
-    good
+    c.is_ascii_alphabetic()
 }
 
 // What the digit c stands for.
+#[tactic(auto, unfolding(crate::specs::Lines::digit_value))]
 fn digit(c: u8) -> u64
-    ensures { result ≡ digit_value c }
+    ensures value { result ≡ digit_value c }
+    ensures below { result < 16 }
 {
-    let d = c as u64;
+    let d = u64::from(c);
     if d < 58 { d % 16 } else { (d + 9) % 16 }
 }
 
 // The number that the sixteen digits from place at on write.
+#[tactic(auto, unfolding(crate::specs::Lines::written))]
 pub fn column(text: &[u8], at: usize) -> u64
     requires { at + 16 ≤ length text.now }
     ensures { result ≡ written text.now at 16 }
 {
     let mut n: u64 = 0;
-    let mut k = 0;
-    while k < 16 {
+    for k in 0..16 {
         n = n * 16 + digit(text[at + k]);
-        k += 1;
     }
     n
 }
 
-// Whether the answer in the line at place at is the library's.
-fn agrees(text: &[u8], columns: u8, at: usize) -> bool
-    requires { at + line_bytes columns ≤ length text.now }
-    ensures { result ≡ agrees_at text.now columns at }
-{
-    if columns < 3 {
-        return false;
-    }
-    if is_line(text, columns, at) {
-        let a = column(text, at + 2);
-        let b = column(text, at + 19);
-        return floats::answer(text[at], a, b) == column(text, at + 36);
-    }
-    false
+// A list's lines, one after the other.
+#[derive(Drop)]
+struct Lines<'a, const N: usize> {
+    list: List<'a, N>,
+    next: usize,
 }
 
-// Whether the line at place at has the letter, and agrees or not as `good` says.
-fn hit(text: &[u8], columns: u8, at: usize, letter: u8, good: bool) -> bool
-    requires { at + line_bytes columns ≤ length text.now }
-    ensures { result ≡ hit_at text.now columns at letter good }
-{
-    if text[at] != letter {
-        return false;
-    }
-    agrees(text, columns, at) == good
-}
+impl<'a, const N: usize> Iterator for Lines<'a, N> {
+    type Item = Line<'a, N>;
 
-fn width(columns: u8) -> usize
-    ensures { result ≡ line_bytes columns }
-{
-    (columns as usize) * 17 + 2
-}
+    ghost remaining = { λ s. at_most (lines_of s.list.text.now N - s.next) };
 
-// How many lines there are.
-pub fn lines(text: &[u8], columns: u8) -> usize
-    ensures { result ≡ lines_of text.now columns }
-{
-    text.len() / width(columns)
-}
-
-// The letter of line i; 0 where there is no such line, or it cannot be read.
-pub fn letter(text: &[u8], columns: u8, i: usize) -> u8
-    ensures { result ≡ letter_at text.now columns i }
-{
-    if i >= lines(text, columns) {
-        return 0;
-    }
-    let at = i * width(columns);
-    if is_line(text, columns, at) {
-        text[at]
-    } else {
-        0
+    fn next(&mut self) -> Option<Line<'a, N>> {
+        let line = self.list.line(self.next)?;
+        self.next += 1;
+        Some(line)
     }
 }
 
-// The number in column j of line i; 0 where there is none.
-pub fn number(text: &[u8], columns: u8, i: usize, j: u8) -> u64
-    ensures { result ≡ number_at text.now columns i j }
-{
-    if i >= lines(text, columns) {
-        return 0;
-    }
-    if j >= columns {
-        return 0;
-    }
-    column(text, i * width(columns) + (j as usize) * 17 + 2)
-}
-
-// The f32 in column j of line i.
-pub fn float_in(text: &[u8], columns: u8, i: usize, j: u8) -> f32
-    ensures { result ≡ single (number_at text.now columns i j) }
-{
-    floats::to_single(number(text, columns, i, j))
-}
-
-// The whole number in column j of line i.
-pub fn int_in(text: &[u8], columns: u8, i: usize, j: u8) -> i32
-    ensures { result ≡ signed (number_at text.now columns i j) }
-{
-    let b = number(text, columns, i, j) % 0x1_0000_0000;
-    let size = (b % 0x8000_0000) as i32;
-    if b < 0x8000_0000 { size } else { 0 - size }
-}
-
-// How many lines have the letter and agree, or do not, as `good` says.
-pub fn count(text: &[u8], columns: u8, letter: u8, good: bool) -> usize
-    ensures { result ≡ hit_count text.now columns letter good }
-{
-    let width = width(columns);
-    let lines = text.len() / width;
-    let mut n = 0;
-    let mut i = 0;
-    while i < lines {
-        if hit(text, columns, i * width, letter, good) {
-            n += 1;
+impl<'a, const N: usize> List<'a, N> {
+    // The list on standard input, as far as there is room.
+    pub fn read(rt: &impl Input, room: &'a mut [u8; ROOM]) -> io::Result<List<'a, N>>
+        requires { N < 256 }
+        ensures { IfOk result (λ list. length list.text.now ≤ ROOM) }
+    {
+        let filled = streams::read_full(&mut rt.reader(), room);
+        if let Some(why) = filled.failed {
+            return Err(why);
         }
-        i += 1;
+        Ok(List {
+            text: &room[..filled.count],
+        })
     }
-    n
+
+    // As many bytes as a line has.
+    fn width(&self) -> usize
+        ensures { result ≡ line_bytes N }
+    {
+        N * 17 + 2
+    }
+
+    // How many lines there are.
+    pub fn len(&self) -> usize
+        ensures { result ≡ lines_of self.now.text.now N }
+    {
+        self.text.len() / self.width()
+    }
+
+    // Line i, if there is one.
+    pub fn line(&self, i: usize) -> Option<Line<'a, N>>
+        ensures { MatchOption result (lines_of self.now.text.now N ≤ i) (λ line. (line.list ≡ self.now) × (line.i ≡ i)) }
+    {
+        if i < self.len() {
+            Some(Line { list: *self, i })
+        } else {
+            None
+        }
+    }
+
+    // All of them, in order.
+    fn lines(&self) -> Lines<'a, N> {
+        Lines {
+            list: *self,
+            next: 0,
+        }
+    }
+
+    // Whether c may stand at place k of a line.
+    #[tactic(auto, unfolding(crate::specs::Lines::belongs))]
+    fn is_placed(&self, k: usize, c: u8) -> bool
+        ensures { result ≡ belongs N k c }
+    {
+        if k == 0 {
+            return is_letter(c);
+        }
+        if k == N * 17 + 1 {
+            return c == b'\n';
+        }
+        if k % 17 == 1 {
+            return c == b' ';
+        }
+        is_digit(c)
+    }
+
+    // How many lines have the letter, which is the lists' own, and agree, or do not, as `good` says.
+    #[tactic(auto, unfolding(crate::specs::Lines::hits, crate::specs::Lines::hit_count))]
+    pub fn count(&self, letter: u8, good: bool) -> usize
+        ensures { result ≡ hit_count self.now.text.now N letter good }
+    {
+        let mut n = 0;
+        for i in 0..self.len() {
+            let line = Line { list: *self, i };
+            if line.hits(letter, good) {
+                n += 1;
+            }
+        }
+        n
+    }
+
+    // Writes, after the helper's name, how many lines with its small letter agree and differ, and how many with the capital one.
+    pub fn report(&self, rt: &impl Print, helper: Helper) -> io::Result<()> {
+        let letter = helper.letter();
+        print!(rt; "{helper}: ")?;
+        self.report_letter(rt, letter)?;
+        print!(rt; "; altered: ")?;
+        self.report_letter(rt, letter.to_ascii_uppercase())?;
+        println!(rt; "")
+    }
+
+    fn report_letter(&self, rt: &impl Print, letter: u8) -> io::Result<()> {
+        let agree = self.count(letter, true);
+        let differ = self.count(letter, false);
+        print!(rt; "{agree} agree, {differ} differ")
+    }
+
+    // Writes how many lines there are, and how many bytes after the last whole one.
+    pub fn report_size(&self, rt: &impl Print) -> io::Result<()> {
+        let lines = self.len();
+        let over = self.text.len() % self.width();
+        println!(rt; "{lines} lines, {over} bytes over")
+    }
 }
 
-// Writes, after the name, how many lines with the small letter agree and differ, and how many with the capital one.
-pub fn report(
-    rt: &impl Print,
-    name: &str,
-    text: &[u8],
-    columns: u8,
-    small: u8,
-    capital: u8,
-) -> io::Result<()> {
-    print!(rt; "{name}: ")?;
-    both(rt, text, columns, small)?;
-    print!(rt; "; altered: ")?;
-    both(rt, text, columns, capital)?;
-    println!(rt; "")
+impl<'a, const N: usize> Line<'a, N> {
+    // The place of its first byte.
+    fn start(&self) -> usize
+        ensures value { result ≡ self.now.i * line_bytes N }
+        ensures inside { result + line_bytes N ≤ length self.now.list.text.now }
+    {
+        let width = self.list.width();
+        prove!(self.i < self.list.text.len() / width);
+        self.i * width
+    }
+
+    // Whether it can be read.
+    #[tactic(auto, unfolding(crate::specs::Lines::readable))]
+    fn is_readable(&self) -> bool
+        ensures { result ≡ is_line self.now.list.text.now N (self.now.i * line_bytes N) }
+    {
+        let at = self.start();
+        let mut good = true;
+        for k in 0..self.list.width() {
+            good = good & self.list.is_placed(k, self.list.text[at + k]);
+        }
+        good
+    }
+
+    // Its letter, if it can be read.
+    #[tactic(auto, unfolding(crate::specs::Lines::letter_at))]
+    pub fn letter(&self) -> Option<u8>
+        ensures { result ≡ letter_at self.now.list.text.now N self.now.i }
+    {
+        if self.is_readable() {
+            Some(self.list.text[self.start()])
+        } else {
+            None
+        }
+    }
+
+    // The call that its letter stands for, if it can be read and there is one.
+    fn call<C: TryFrom<u8, Error = UnknownLetter>>(&self) -> Option<C> {
+        C::try_from(self.letter()?).ok()
+    }
+
+    // The number in column j.
+    fn number(&self, j: usize) -> u64
+        requires { j < N }
+        ensures { result ≡ written self.now.list.text.now (self.now.i * line_bytes N + j * 17 + 2) 16 }
+    {
+        column(self.list.text, self.start() + j * 17 + 2)
+    }
+
+    // The numbers in its columns. The checker refuses the closure that `array::from_fn` would take here.
+    #[tactic(auto, unfolding(crate::specs::Lines::number_at))]
+    pub fn columns(&self) -> [u64; N]
+        ensures { (j : ℕ) → j < N → number_at self.now.list.text.now N self.now.i j ≡ Some (slice_index result j) }
+    {
+        let mut numbers = [0; N];
+        for j in 0..N {
+            numbers[j] = self.number(j);
+        }
+        numbers
+    }
+
+    // Whether the answer that it stores is the library's.
+    #[tactic(auto, unfolding(crate::specs::Lines::agrees_at))]
+    fn agrees(&self) -> bool
+        ensures { result ≡ agrees_at self.now.list.text.now N (self.now.i * line_bytes N) }
+    {
+        N >= 3
+            && self.is_readable()
+            && floats::answer(self.list.text[self.start()], self.number(0), self.number(1))
+                == self.number(2)
+    }
+
+    // Whether it has the letter, and agrees or not as `good` says.
+    fn hits(&self, letter: u8, good: bool) -> bool
+        ensures { result ≡ hit_at self.now.list.text.now N (self.now.i * line_bytes N) letter good }
+    {
+        self.list.text[self.start()] == letter && self.agrees() == good
+    }
 }
 
-fn both(rt: &impl Print, text: &[u8], columns: u8, letter: u8) -> io::Result<()> {
-    let agree = count(text, columns, letter, true);
-    let differ = count(text, columns, letter, false);
-    print!(rt; "{agree} agree, {differ} differ")
+// What a program keeps from line to line, and what it does at each. A trait: a closure over a line's `[u64; N]` gets no proof.
+pub trait Calls<const N: usize> {
+    // What the letters stand for.
+    type Call: TryFrom<u8, Error = UnknownLetter> + Drop;
+
+    // Makes the call with these columns, and writes what it answers.
+    fn run(&mut self, rt: &impl Print, call: Self::Call, columns: [u64; N]) -> io::Result<()>;
 }
 
-// Writes how many lines there are, and how many bytes after the last whole one.
-pub fn report_lines(rt: &impl Print, text: &[u8], columns: u8) -> io::Result<()> {
-    let width = width(columns);
-    let lines = text.len() / width;
-    let over = text.len() % width;
-    println!(rt; "{lines} lines, {over} bytes over")
+// Replays the list on standard input line by line, and says so where a line cannot be read or its letter stands for no call. At
+// last it says how many lines there are.
+pub fn replay<const N: usize>(
+    rt: &(impl Input + Print),
+    calls: &mut impl Calls<N>,
+) -> io::Result<()>
+    requires { N < 256 }
+{
+    let mut room = [0; ROOM];
+    let list = List::<N>::read(rt, &mut room)?;
+    for line in list.lines() {
+        match line.call() {
+            Some(call) => calls.run(rt, call, line.columns())?,
+            None => println!(rt; "a line that cannot be read")?,
+        }
+    }
+    list.report_size(rt)
+}
+
+// The bytes of five columns, the first in the highest place.
+pub fn bytes_in(columns: [u64; 5]) -> [u8; 40]
+    ensures { (k : ℕ) → k < 40 → slice_index result k ≡ column_byte columns k }
+{
+    let mut bytes = [0; 40];
+    for k in 0..40 {
+        bytes[k] = columns[k / 8].to_be_bytes()[k % 8];
+    }
+    bytes
 }
 
 // Writes the name of a call and the number that it answers.
@@ -216,8 +321,28 @@ pub fn report_answer(rt: &impl Print, name: &str, number: u32) -> io::Result<()>
     print!(rt; "{name} {number}")
 }
 
-// Writes a blank and x's pattern in eight hexadecimal digits.
-pub fn report_float(rt: &impl Print, x: f32) -> io::Result<()> {
-    let pattern = floats::of_single(x);
-    print!(rt; " {pattern:08x}")
+// Writes a blank and x's pattern in eight hexadecimal digits, for each x.
+pub fn report_floats(rt: &impl Print, all: &[f32]) -> io::Result<()> {
+    for x in all {
+        let pattern = (*x).pattern();
+        print!(rt; " {pattern:08x}")?;
+    }
+    Ok(())
+}
+
+// Writes a blank and a field, for each field.
+pub fn report_fields<T: Display>(rt: &impl Print, fields: &[T]) -> io::Result<()> {
+    for field in fields {
+        print!(rt; " {field}")?;
+    }
+    Ok(())
+}
+
+// Writes each byte in two hexadecimal digits, after a blank.
+pub fn report_bytes(rt: &impl Print, bytes: &[u8]) -> io::Result<()> {
+    print!(rt; " ")?;
+    for byte in bytes {
+        print!(rt; "{byte:02x}")?;
+    }
+    Ok(())
 }

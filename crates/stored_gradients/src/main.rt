@@ -2,72 +2,93 @@
 // `oracle/compare --store gradients` makes both anew.
 #![tactic(auto)]
 
-use compare::pixel_gradients;
+use compare::pixel_gradients::{
+    vuzgari_compare_add, vuzgari_compare_covariance, vuzgari_compare_reset,
+};
 use std::io;
+use stored::floats::Column;
+use stored::{Calls, UnknownLetter};
 
-const COLUMNS: u8 = 4;
-
-// The call of line i, on a state that is carried from line to line: s sets its origin and side without a call, r resets it to an
-// origin and a side, a adds at a pixel, c asks for the covariance.
-fn call(
-    rt: &impl Print,
-    text: &[u8],
-    i: usize,
-    origin: &mut [i32; 2],
-    side: &mut usize,
-    gx: &mut [f32; 1024],
-    gy: &mut [f32; 1024],
-) -> io::Result<()> {
-    let letter = stored::letter(text, COLUMNS, i);
-    let x = stored::int_in(text, COLUMNS, i, 0);
-    let y = stored::int_in(text, COLUMNS, i, 1);
-    if letter == b's' {
-        *origin = [x, y];
-        *side = stored::number(text, COLUMNS, i, 2) as usize;
-        return Ok(());
-    }
-    if letter == b'r' {
-        let n = stored::number(text, COLUMNS, i, 2) as usize;
-        let number = pixel_gradients::vuzgari_compare_reset(origin, side, gx, gy, x, y, n);
-        stored::report_answer(rt, "reset", number)?;
-    } else if letter == b'a' {
-        let vx = stored::float_in(text, COLUMNS, i, 2);
-        let vy = stored::float_in(text, COLUMNS, i, 3);
-        let number = pixel_gradients::vuzgari_compare_add(origin, side, gx, gy, x, y, vx, vy);
-        stored::report_answer(rt, "add", number)?;
-    } else if letter == b'c' {
-        let mut out = [0.0; 3];
-        let n = *side;
-        let number = pixel_gradients::vuzgari_compare_covariance(origin, n, gx, gy, &mut out);
-        stored::report_answer(rt, "covariance", number)?;
-        stored::report_float(rt, out[0])?;
-        stored::report_float(rt, out[1])?;
-        stored::report_float(rt, out[2])?;
-    } else {
-        print!(rt; "a line that cannot be read")?;
-    }
-    println!(rt; "")
+#[derive(Clone, Copy)]
+enum Call {
+    // Sets the state's origin and side without a call.
+    Set,
+    // Resets the state to an origin and a side.
+    Reset,
+    // Adds at a pixel.
+    Add,
+    // Asks for the covariance.
+    Covariance,
 }
 
-fn replay(rt: &impl Print, text: &[u8]) -> io::Result<()> {
-    let lines = stored::lines(text, COLUMNS);
-    let mut origin = [0; 2];
-    let mut side = 0;
-    let mut gx = [0.0; 1024];
-    let mut gy = [0.0; 1024];
-    let mut i = 0;
-    while i < lines {
-        call(rt, text, i, &mut origin, &mut side, &mut gx, &mut gy)?;
-        i += 1;
+impl TryFrom<u8> for Call {
+    type Error = UnknownLetter;
+
+    fn try_from(letter: u8) -> Result<Call, UnknownLetter> {
+        match letter {
+            b's' => Ok(Call::Set),
+            b'r' => Ok(Call::Reset),
+            b'a' => Ok(Call::Add),
+            b'c' => Ok(Call::Covariance),
+            _ => Err(UnknownLetter(letter)),
+        }
     }
-    stored::report_lines(rt, text, COLUMNS)
+}
+
+// The accumulator's state, by the parts that the exported calls lend.
+#[derive(Drop)]
+struct State {
+    origin: [i32; 2],
+    side: usize,
+    gx: [f32; 1024],
+    gy: [f32; 1024],
+}
+
+impl Calls<4> for State {
+    type Call = Call;
+
+    fn run(&mut self, rt: &impl Print, call: Call, columns: [u64; 4]) -> io::Result<()> {
+        let State {
+            origin,
+            side,
+            gx,
+            gy,
+        } = self;
+        let [a, b, c, d] = columns;
+        let x = i32::of(a);
+        let y = i32::of(b);
+        match call {
+            Call::Set => {
+                *origin = [x, y];
+                *side = c as usize;
+                return Ok(());
+            }
+            Call::Reset => {
+                let number = vuzgari_compare_reset(origin, side, gx, gy, x, y, c as usize);
+                stored::report_answer(rt, "reset", number)?;
+            }
+            Call::Add => {
+                let (vx, vy) = (f32::of(c), f32::of(d));
+                let number = vuzgari_compare_add(origin, side, gx, gy, x, y, vx, vy);
+                stored::report_answer(rt, "add", number)?;
+            }
+            Call::Covariance => {
+                let mut out = [0.0; 3];
+                let number = vuzgari_compare_covariance(origin, *side, gx, gy, &mut out);
+                stored::report_answer(rt, "covariance", number)?;
+                stored::report_floats(rt, &out)?;
+            }
+        }
+        println!(rt; "")
+    }
 }
 
 fn main(rt: HostRuntime) -> io::Result<()> {
-    let mut room = [0; 65536];
-    let filled = streams::read_full(&mut rt.stdin(), &mut room);
-    if let Some(why) = filled.failed {
-        return Err(why);
-    }
-    replay(&rt, &room[..filled.count])
+    let mut state = State {
+        origin: [0; 2],
+        side: 0,
+        gx: [0.0; 1024],
+        gy: [0.0; 1024],
+    };
+    stored::replay(&rt, &mut state)
 }

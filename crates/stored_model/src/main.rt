@@ -2,184 +2,151 @@
 // standard output. `oracle/compare --store model` makes both anew.
 #![tactic(auto)]
 
-use compare::covariance_model;
+use compare::covariance_model::{
+    vuzgari_compare_at, vuzgari_compare_model, vuzgari_compare_noise_at, vuzgari_compare_total,
+};
 use std::io;
+use stored::floats::Column;
+use stored::{Calls, UnknownLetter};
 
-const COLUMNS: u8 = 9;
-
-fn float_in(text: &[u8], i: usize, j: u8) -> f32 {
-    stored::float_in(text, COLUMNS, i, j)
+#[derive(Clone, Copy)]
+enum Call {
+    // Starts anew with a count of knots and a floor.
+    Start,
+    // Sets a knot.
+    Knot,
+    // Asks the systematic model for gain and residual at a width.
+    At,
+    // Asks for the covariance model.
+    Model,
+    // Asks the covariance model for the noise part alone.
+    NoiseAt,
+    // Asks the covariance model for the whole covariance.
+    Total,
 }
 
-// Gain and residual at the width of line i, if it is known, and the knots' number.
-fn at(
-    rt: &impl Print,
-    text: &[u8],
-    i: usize,
-    widths: &[f32; 16],
-    gains: &[f32; 16],
-    residuals: &[f32; 16],
+impl TryFrom<u8> for Call {
+    type Error = UnknownLetter;
+
+    fn try_from(letter: u8) -> Result<Call, UnknownLetter> {
+        match letter {
+            b's' => Ok(Call::Start),
+            b'k' => Ok(Call::Knot),
+            b'a' => Ok(Call::At),
+            b'm' => Ok(Call::Model),
+            b'n' => Ok(Call::NoiseAt),
+            b't' => Ok(Call::Total),
+            _ => Err(UnknownLetter(letter)),
+        }
+    }
+}
+
+// The systematic model: so many of the knots, and the floor. The exported calls take the knots as three lists.
+#[derive(Drop)]
+struct Knots {
+    widths: [f32; 16],
+    gains: [f32; 16],
+    residuals: [f32; 16],
     count: usize,
     floor: f32,
-) -> io::Result<()> {
-    let known = stored::number(text, COLUMNS, i, 0) != 0;
-    let w = float_in(text, i, 1);
-    let mut out = [0.0; 2];
-    let number = covariance_model::vuzgari_compare_at(
-        widths, gains, residuals, count, floor, known, w, &mut out,
-    );
-    stored::report_answer(rt, "at", number)?;
-    stored::report_float(rt, out[0])?;
-    stored::report_float(rt, out[1])
 }
 
-// The model of line i: the width, if it is known, the grid, the noise part and the offset.
-fn model(
-    rt: &impl Print,
-    text: &[u8],
-    i: usize,
-    widths: &[f32; 16],
-    gains: &[f32; 16],
-    residuals: &[f32; 16],
-    count: usize,
-    floor: f32,
-) -> io::Result<()> {
-    let known = stored::number(text, COLUMNS, i, 0) != 0;
-    let w = float_in(text, i, 1);
-    let grid = float_in(text, i, 2);
-    let noise = [
-        float_in(text, i, 3),
-        float_in(text, i, 4),
-        float_in(text, i, 5),
-    ];
-    let offset = [float_in(text, i, 6), float_in(text, i, 7)];
-    let mut out = [0.0; 8];
-    let number = covariance_model::vuzgari_compare_model(
-        widths, gains, residuals, count, floor, &noise, &offset, known, w, grid, &mut out,
-    );
-    stored::report_answer(rt, "model", number)?;
-    stored::report_float(rt, out[0])?;
-    stored::report_float(rt, out[1])?;
-    stored::report_float(rt, out[2])?;
-    stored::report_float(rt, out[3])?;
-    stored::report_float(rt, out[4])?;
-    stored::report_float(rt, out[5])?;
-    stored::report_float(rt, out[6])?;
-    stored::report_float(rt, out[7])
+impl Knots {
+    fn start(count: usize, floor: f32) -> Knots {
+        Knots {
+            widths: [0.0; 16],
+            gains: [0.0; 16],
+            residuals: [0.0; 16],
+            count,
+            floor,
+        }
+    }
+
+    fn set(&mut self, k: usize, width: f32, gain: f32, residual: f32) {
+        if k < 16 {
+            self.widths[k] = width;
+            self.gains[k] = gain;
+            self.residuals[k] = residual;
+        }
+    }
+
+    // Gain and residual at the width, if it is known.
+    fn at(&self, rt: &impl Print, known: bool, width: f32) -> io::Result<()> {
+        let mut out = [0.0; 2];
+        let number = vuzgari_compare_at(
+            &self.widths,
+            &self.gains,
+            &self.residuals,
+            self.count,
+            self.floor,
+            known,
+            width,
+            &mut out,
+        );
+        stored::report_answer(rt, "at", number)?;
+        stored::report_floats(rt, &out)
+    }
+
+    // The model of the width, if it is known, the grid, the noise part and the offset.
+    fn model(&self, rt: &impl Print, known: bool, columns: [f32; 9]) -> io::Result<()> {
+        let [_, width, grid, a, b, c, x, y, _] = columns;
+        let mut out = [0.0; 8];
+        let number = vuzgari_compare_model(
+            &self.widths,
+            &self.gains,
+            &self.residuals,
+            self.count,
+            self.floor,
+            &[a, b, c],
+            &[x, y],
+            known,
+            width,
+            grid,
+            &mut out,
+        );
+        stored::report_answer(rt, "model", number)?;
+        stored::report_floats(rt, &out)
+    }
 }
 
-// The noise part alone or the whole covariance of line i: noise part, systematic part, growth, sigma.
-fn level(rt: &impl Print, text: &[u8], i: usize, whole: bool) -> io::Result<()> {
-    let noise = [
-        float_in(text, i, 0),
-        float_in(text, i, 1),
-        float_in(text, i, 2),
-    ];
-    let systematic = [
-        float_in(text, i, 3),
-        float_in(text, i, 4),
-        float_in(text, i, 5),
-    ];
-    let growth = [float_in(text, i, 6), float_in(text, i, 7)];
-    let sigma = float_in(text, i, 8);
+// What `ask` answers of the noise part, the systematic part, the growth and sigma.
+fn level<F>(rt: &impl Print, name: &str, columns: [f32; 9], ask: F) -> io::Result<()>
+where
+    F: FnOnce(&[f32; 3], &[f32; 3], &[f32; 2], f32, &mut [f32; 3]) -> u32,
+    requires { F.IsAlwaysCallable ask }
+{
+    let [a, b, c, d, e, f, x, y, sigma] = columns;
     let mut out = [0.0; 3];
-    if whole {
-        let number = covariance_model::vuzgari_compare_total(
-            &noise,
-            &systematic,
-            &growth,
-            sigma,
-            &mut out,
-        );
-        stored::report_answer(rt, "total", number)?;
-    } else {
-        let number = covariance_model::vuzgari_compare_noise_at(
-            &noise,
-            &systematic,
-            &growth,
-            sigma,
-            &mut out,
-        );
-        stored::report_answer(rt, "noise_at", number)?;
-    }
-    stored::report_float(rt, out[0])?;
-    stored::report_float(rt, out[1])?;
-    stored::report_float(rt, out[2])
+    let number = ask(&[a, b, c], &[d, e, f], &[x, y], sigma, &mut out);
+    stored::report_answer(rt, name, number)?;
+    stored::report_floats(rt, &out)
 }
 
-// The call of line i, on knots that are carried from line to line: s starts anew with a count and a floor, k sets a knot, a and m ask
-// the systematic model, n and t the covariance model.
-fn call(
-    rt: &impl Print,
-    text: &[u8],
-    i: usize,
-    widths: &mut [f32; 16],
-    gains: &mut [f32; 16],
-    residuals: &mut [f32; 16],
-    count: &mut usize,
-    floor: &mut f32,
-) -> io::Result<()> {
-    let letter = stored::letter(text, COLUMNS, i);
-    let n = *count;
-    let f = *floor;
-    if letter == b's' {
-        *count = stored::number(text, COLUMNS, i, 0) as usize;
-        *floor = float_in(text, i, 1);
-        *widths = [0.0; 16];
-        *gains = [0.0; 16];
-        *residuals = [0.0; 16];
-        return Ok(());
-    }
-    if letter == b'k' {
-        let k = (stored::number(text, COLUMNS, i, 0) % 16) as usize;
-        widths[k] = float_in(text, i, 1);
-        gains[k] = float_in(text, i, 2);
-        residuals[k] = float_in(text, i, 3);
-        return Ok(());
-    }
-    if letter == b'a' {
-        at(rt, text, i, widths, gains, residuals, n, f)?;
-    } else if letter == b'm' {
-        model(rt, text, i, widths, gains, residuals, n, f)?;
-    } else if letter == b'n' {
-        level(rt, text, i, false)?;
-    } else if letter == b't' {
-        level(rt, text, i, true)?;
-    } else {
-        print!(rt; "a line that cannot be read")?;
-    }
-    println!(rt; "")
-}
+impl Calls<9> for Knots {
+    type Call = Call;
 
-fn replay(rt: &impl Print, text: &[u8]) -> io::Result<()> {
-    let lines = stored::lines(text, COLUMNS);
-    let mut widths = [0.0; 16];
-    let mut gains = [0.0; 16];
-    let mut residuals = [0.0; 16];
-    let mut count = 0;
-    let mut floor = 0.0;
-    let mut i = 0;
-    while i < lines {
-        call(
-            rt,
-            text,
-            i,
-            &mut widths,
-            &mut gains,
-            &mut residuals,
-            &mut count,
-            &mut floor,
-        )?;
-        i += 1;
+    fn run(&mut self, rt: &impl Print, call: Call, columns: [u64; 9]) -> io::Result<()> {
+        let first = columns[0];
+        let known = first != 0;
+        let floats = columns.map(f32::of);
+        match call {
+            Call::Start => {
+                *self = Knots::start(first as usize, floats[1]);
+                return Ok(());
+            }
+            Call::Knot => {
+                self.set((first % 16) as usize, floats[1], floats[2], floats[3]);
+                return Ok(());
+            }
+            Call::At => self.at(rt, known, floats[1])?,
+            Call::Model => self.model(rt, known, floats)?,
+            Call::NoiseAt => level(rt, "noise_at", floats, vuzgari_compare_noise_at)?,
+            Call::Total => level(rt, "total", floats, vuzgari_compare_total)?,
+        }
+        println!(rt; "")
     }
-    stored::report_lines(rt, text, COLUMNS)
 }
 
 fn main(rt: HostRuntime) -> io::Result<()> {
-    let mut room = [0; 65536];
-    let filled = streams::read_full(&mut rt.stdin(), &mut room);
-    if let Some(why) = filled.failed {
-        return Err(why);
-    }
-    replay(&rt, &room[..filled.count])
+    stored::replay(&rt, &mut Knots::start(0, 0.0))
 }

@@ -2,117 +2,78 @@
 // `oracle/compare --store pgm` makes both anew.
 #![tactic(auto)]
 
-ghost use Rattle.std.specs.Prelude.{◌≡◌, length};
-
 use std::io;
+use stored::{Calls, UnknownLetter};
 
-const COLUMNS: u8 = 7;
-
-// Byte k of line i's bytes, which stand in its last five columns, the first in the highest place.
-fn byte(text: &[u8], i: usize, k: usize) -> u8 {
-    let n = stored::number(text, COLUMNS, i, (k / 8 % 5) as u8 + 2);
-    ((n >> (56 - k % 8 * 8)) % 256) as u8
+#[derive(Clone, Copy)]
+enum Call {
+    // Reads a header.
+    Header,
+    // Judges a file.
+    Judge,
+    // Is the program.
+    Pgmnoise,
 }
 
-// All forty of them.
-fn bytes_in(text: &[u8], i: usize) -> [u8; 40]
-    ensures { length result ≡ 40 }
-{
-    let mut bytes = [0; 40];
-    let mut k = 0;
-    while k < 40 {
-        bytes[k] = byte(text, i, k);
-        k += 1;
+impl TryFrom<u8> for Call {
+    type Error = UnknownLetter;
+
+    fn try_from(letter: u8) -> Result<Call, UnknownLetter> {
+        match letter {
+            b'h' => Ok(Call::Header),
+            b'j' => Ok(Call::Judge),
+            b'p' => Ok(Call::Pgmnoise),
+            _ => Err(UnknownLetter(letter)),
+        }
     }
-    bytes
 }
 
-fn report_fields(rt: &impl Print, fields: &[u64; 6]) -> io::Result<()> {
-    let mut k = 0;
-    while k < 6 {
-        let field = fields[k];
-        print!(rt; " {field}")?;
-        k += 1;
-    }
-    Ok(())
-}
-
-fn report_words(rt: &impl Print, words: &[u32; 10]) -> io::Result<()> {
-    let mut k = 0;
-    while k < 10 {
-        let word = laws::wide(words[k]);
-        print!(rt; " {word}")?;
-        k += 1;
-    }
-    Ok(())
-}
-
-// Reads a header at the first n of the bytes into the first m of 6 fields, and reports all 6.
-fn header(rt: &impl Print, bytes: &[u8], n: usize, m: usize) -> io::Result<()> {
+// Reads a header at the front into the first m of 6 fields, and reports all 6.
+fn header(rt: &impl Print, front: &[u8], m: usize) -> io::Result<()> {
     let mut fields = [999; 6];
-    if n > bytes.len() {
+    let Some(lent) = fields.get_mut(..m) else {
         return Ok(());
-    }
-    if m > 6 {
-        return Ok(());
-    }
-    let number = vuzgari::vuzgari_pgm_header(&bytes[..n], &mut fields[..m]);
+    };
+    let number = vuzgari::vuzgari_pgm_header(front, lent);
     stored::report_answer(rt, "header", number)?;
-    report_fields(rt, &fields)
+    stored::report_fields(rt, &fields)
 }
 
-// Judges a file of `len` bytes by the first n.
-fn judge(rt: &impl Print, bytes: &[u8], n: usize, len: usize) -> io::Result<()> {
-    if n > bytes.len() {
-        return Ok(());
-    }
-    let number = vuzgari::vuzgari_pgm_judge(&bytes[..n], len);
+// Judges a file of `len` bytes by its front.
+fn judge(rt: &impl Print, front: &[u8], len: usize) -> io::Result<()> {
+    let number = vuzgari::vuzgari_pgm_judge(front, len);
     stored::report_answer(rt, "judge", number)
 }
 
-// The ten fields that `pgmnoise` prints for the first n of the bytes.
-fn pgmnoise(rt: &impl Print, bytes: &[u8], n: usize) -> io::Result<()> {
-    if n > bytes.len() {
-        return Ok(());
-    }
-    let words = answer::words(grey::answer_to(&bytes[..n]));
+// The ten fields that `pgmnoise` prints for the file.
+fn pgmnoise(rt: &impl Print, file: &[u8]) -> io::Result<()> {
+    let words = answer::words(grey::answer_to(file));
     print!(rt; "pgmnoise")?;
-    report_words(rt, &words)
+    stored::report_fields(rt, &words)
 }
 
-// The call of line i: h reads a header, j judges a file, p is the program.
-fn call(rt: &impl Print, text: &[u8], i: usize) -> io::Result<()> {
-    let letter = stored::letter(text, COLUMNS, i);
-    let n = stored::number(text, COLUMNS, i, 0) as usize;
-    let m = stored::number(text, COLUMNS, i, 1) as usize;
-    let bytes = bytes_in(text, i);
-    if letter == b'h' {
-        header(rt, &bytes, n, m)?;
-    } else if letter == b'j' {
-        judge(rt, &bytes, n, m)?;
-    } else if letter == b'p' {
-        pgmnoise(rt, &bytes, n)?;
-    } else {
-        print!(rt; "a line that cannot be read")?;
-    }
-    println!(rt; "")
-}
+// The calls keep nothing from line to line.
+#[derive(Drop)]
+struct Files;
 
-fn replay(rt: &impl Print, text: &[u8]) -> io::Result<()> {
-    let lines = stored::lines(text, COLUMNS);
-    let mut i = 0;
-    while i < lines {
-        call(rt, text, i)?;
-        i += 1;
+impl Calls<7> for Files {
+    type Call = Call;
+
+    // Of the bytes in the last five columns, the first n are lent.
+    fn run(&mut self, rt: &impl Print, call: Call, columns: [u64; 7]) -> io::Result<()> {
+        let [n, m, a, b, c, d, e] = columns;
+        let bytes = stored::bytes_in([a, b, c, d, e]);
+        if let Some(front) = bytes.get(..n as usize) {
+            match call {
+                Call::Header => header(rt, front, m as usize)?,
+                Call::Judge => judge(rt, front, m as usize)?,
+                Call::Pgmnoise => pgmnoise(rt, front)?,
+            }
+        }
+        println!(rt; "")
     }
-    stored::report_lines(rt, text, COLUMNS)
 }
 
 fn main(rt: HostRuntime) -> io::Result<()> {
-    let mut room = [0; 65536];
-    let filled = streams::read_full(&mut rt.stdin(), &mut room);
-    if let Some(why) = filled.failed {
-        return Err(why);
-    }
-    replay(&rt, &room[..filled.count])
+    stored::replay(&rt, &mut Files)
 }

@@ -2,20 +2,59 @@
 // answers on standard output. `oracle/compare --store twins` makes both anew.
 #![tactic(auto)]
 
-ghost use Rattle.std.specs.Prelude.{◌<◌, ◌^◌};
+ghost use Rattle.std.specs.Prelude.{◌<◌, ◌≤◌, ◌^◌};
 
-use compare::{bands, floats};
+use compare::bands::{
+    vuzgari_compare_noise_number, vuzgari_compare_noise_rounds, vuzgari_compare_noise_sigma,
+};
+use compare::floats::vuzgari_compare_milli;
 use std::io;
+use stored::floats::Column;
+use stored::{Calls, UnknownLetter};
+use vuzgari::{vuzgari_edge_width, vuzgari_noise};
 
-const COLUMNS: u8 = 4;
-
-fn wide(x: u8) -> u64 {
-    x as u64
+#[derive(Clone, Copy)]
+enum Call {
+    // Starts an image.
+    Image,
+    // Sets the level of a quarter.
+    Level,
+    // Fills the image.
+    Fill,
+    // Sets a pixel.
+    Pixel,
+    // Asks for the noise.
+    Noise,
+    // Asks for the edge's width.
+    Edge,
+    // Starts a list of windows.
+    Bands,
+    // Adds windows to a band.
+    Windows,
+    // Asks for the rounds.
+    Rounds,
+    // Asks for the thousandths of a pattern.
+    Milli,
 }
 
-// One step of the generator of pixels.
-fn next(state: u64) -> u64 {
-    (state % 0x1_0000_0000 * 1_664_525 + 1_013_904_223) % 0x1_0000_0000
+impl TryFrom<u8> for Call {
+    type Error = UnknownLetter;
+
+    fn try_from(letter: u8) -> Result<Call, UnknownLetter> {
+        match letter {
+            b'i' => Ok(Call::Image),
+            b'l' => Ok(Call::Level),
+            b'f' => Ok(Call::Fill),
+            b'p' => Ok(Call::Pixel),
+            b'n' => Ok(Call::Noise),
+            b'e' => Ok(Call::Edge),
+            b'b' => Ok(Call::Bands),
+            b'w' => Ok(Call::Windows),
+            b'r' => Ok(Call::Rounds),
+            b'm' => Ok(Call::Milli),
+            _ => Err(UnknownLetter(letter)),
+        }
+    }
 }
 
 // The product of a's and b's last 14 bits.
@@ -25,263 +64,193 @@ fn times(a: u64, b: u64) -> u64
     (a % 16384) * (b % 16384)
 }
 
-// A pixel of column x: the level of its quarter of the width, a slope, and a share of the generator's byte, up to 255.
-fn pixel(levels: &[u64; 8], w: usize, x: usize, state: u64, slope: u64) -> u8 {
-    if x >= 4096 {
-        return 0;
-    }
-    if w == 0 {
-        return 0;
-    }
-    let quarter = x * 4 / w % 4;
-    let drawn = times(state / 0x100_0000, levels[quarter + 4]) / 256;
-    let level = levels[quarter] % 256 + times(slope, x as u64) + drawn;
-    if level < 255 {
-        return level as u8;
-    }
-    255
+// A quarter of an image's width: its level, and the share of the generator's byte that is added.
+#[derive(Clone, Copy)]
+struct Quarter {
+    level: u64,
+    share: u64,
 }
 
-// Fills an image of width w, row by row.
-fn paint(image: &mut [u8; 4096], w: usize, levels: &[u64; 8], seed: u64, slope: u64) {
-    if w == 0 {
-        return;
-    }
-    let mut state = seed;
-    let mut k = 0;
-    while k < 4096 {
-        state = next(state);
-        image[k] = pixel(levels, w, k % w, state, slope);
-        k += 1;
-    }
-}
-
-// One window more with this gate and squared output, if there is room; how many there are then.
-fn put(gate: &mut [f32; 4096], square: &mut [f32; 4096], n: usize, g: f32, s: f32) -> usize {
-    if n >= 4096 {
-        return n;
-    }
-    gate[n] = g;
-    square[n] = s;
-    n + 1
-}
-
-// So many windows more.
-fn push(
-    gate: &mut [f32; 4096],
-    square: &mut [f32; 4096],
-    from: usize,
-    count: u64,
-    g: f32,
-    s: f32,
-) -> usize {
-    let mut n = from;
-    let mut k = 0;
-    while k < count {
-        n = put(gate, square, n, g, s);
-        k += 1;
-    }
-    n
-}
-
-// The bytes of an answer in hexadecimal.
-fn report_bytes(rt: &impl Print, bytes: &[u8; 40]) -> io::Result<()> {
-    let mut k = 0;
-    while k < 40 {
-        let byte = wide(bytes[k]);
-        print!(rt; "{byte:02x}")?;
-        k += 1;
-    }
-    Ok(())
-}
-
-fn noise(rt: &impl Print, image: &[u8], w: usize, h: usize, n: usize) -> io::Result<()> {
-    let mut ints = [0; 12288];
-    let mut floats = [0.0; 8194];
-    let mut out = [0; 40];
-    if n > image.len() {
-        return Ok(());
-    }
-    let number = vuzgari::vuzgari_noise(&image[..n], w, h, &mut ints, &mut floats, &mut out);
-    stored::report_answer(rt, "noise", number)?;
-    print!(rt; " ")?;
-    report_bytes(rt, &out)
-}
-
-fn edge(
-    rt: &impl Print,
-    image: &[u8],
+#[derive(Drop)]
+struct Image {
+    pixels: [u8; 4096],
     w: usize,
     h: usize,
-    n: usize,
-    cx: i32,
-    cy: i32,
-) -> io::Result<()> {
-    if n > image.len() {
-        return Ok(());
-    }
-    let code = vuzgari::vuzgari_edge_width(&image[..n], w, h, 0, 0, cx, cy);
-    print!(rt; "edge {code:08x}")
+    quarters: [Quarter; 4],
 }
 
-// What the rounds answer; the bands end before e1, e2, e3 and the end.
-fn rounds(
-    rt: &impl Print,
-    gate: &[f32],
-    square: &[f32],
-    e1: usize,
-    e2: usize,
-    e3: usize,
-) -> io::Result<()> {
-    if gate.len() != square.len() {
-        return Ok(());
+impl Image {
+    // The pixels that are lent, if there are as many as the sides say.
+    fn lent(&self) -> Option<&[u8]> {
+        let n = times(self.w as u64, self.h as u64) as usize;
+        self.pixels.get(..n)
     }
-    if e3 > gate.len() {
-        return Ok(());
-    }
-    if e2 > e3 {
-        return Ok(());
-    }
-    if e1 > e2 {
-        return Ok(());
-    }
-    let number = bands::vuzgari_compare_noise_number(gate, square, e1, e2, e3);
-    let sigma = bands::vuzgari_compare_noise_sigma(gate, square, e1, e2, e3);
-    let count = bands::vuzgari_compare_noise_rounds(gate, square, e1, e2, e3);
-    stored::report_answer(rt, "windows", number)?;
-    stored::report_float(rt, sigma)?;
-    print!(rt; " {count}")
-}
 
-// The same of the first n windows.
-fn windows(
-    rt: &impl Print,
-    gate: &[f32],
-    square: &[f32],
-    e1: usize,
-    e2: usize,
-    e3: usize,
-    n: usize,
-) -> io::Result<()> {
-    if n > gate.len() {
-        return Ok(());
-    }
-    if n > square.len() {
-        return Ok(());
-    }
-    rounds(rt, &gate[..n], &square[..n], e1, e2, e3)
-}
-
-// The call of line i, on an image and a list of windows that are carried from line to line: i starts an image, l sets the level of a
-// quarter, f fills, p sets a pixel, n and e ask for noise and width; b starts a list, w adds windows to a band, r asks for the rounds;
-// m asks for the thousandths of a pattern.
-fn call(
-    rt: &impl Print,
-    text: &[u8],
-    i: usize,
-    image: &mut [u8; 4096],
-    sides: &mut [usize; 2],
-    levels: &mut [u64; 8],
-    gate: &mut [f32; 4096],
-    square: &mut [f32; 4096],
-    ends: &mut [usize; 4],
-) -> io::Result<()> {
-    let letter = stored::letter(text, COLUMNS, i);
-    let a = stored::number(text, COLUMNS, i, 0);
-    let b = stored::number(text, COLUMNS, i, 1);
-    let c = stored::number(text, COLUMNS, i, 2);
-    let w = sides[0];
-    let h = sides[1];
-    let n = times(w as u64, h as u64) as usize;
-    if letter == b'i' {
-        *sides = [a as usize, b as usize];
-        return Ok(());
-    }
-    if letter == b'l' {
-        let k = (a % 4) as usize;
-        levels[k] = b;
-        levels[k + 4] = c;
-        return Ok(());
-    }
-    if letter == b'f' {
-        paint(image, w, levels, a, b);
-        return Ok(());
-    }
-    if letter == b'p' {
-        let k = (times(b, w as u64) + a % 16384) as usize;
+    // Sets the pixel, if the image has room for it.
+    fn set(&mut self, x: u64, y: u64, pixel: u8) {
+        let k = (times(y, self.w as u64) + x % 16384) as usize;
         if k < 4096 {
-            image[k] = (c % 256) as u8;
+            self.pixels[k] = pixel;
         }
-        return Ok(());
     }
-    if letter == b'b' {
-        *ends = [0; 4];
-        return Ok(());
-    }
-    if letter == b'w' {
-        let g = stored::float_in(text, COLUMNS, i, 2);
-        let s = stored::float_in(text, COLUMNS, i, 3);
-        let end = push(gate, square, ends[3], b, g, s);
-        if a < 1 {
-            ends[0] = end;
+
+    // Fills the image row by row. A pixel has the level of its quarter, a slope times its column, and a share of the generator's
+    // byte, up to 255.
+    fn fill(&mut self, seed: u64, slope: u64) {
+        let w = self.w;
+        if w == 0 {
+            return;
         }
-        if a < 2 {
-            ends[1] = end;
+        let mut state = (seed % 0x1_0000_0000) as u32;
+        for k in 0..4096 {
+            state = state.wrapping_mul(1_664_525).wrapping_add(1_013_904_223);
+            let x = k % w;
+            let quarter = self.quarters[x * 4 / w % 4];
+            let drawn = times(u64::from(state >> 24), quarter.share) / 256;
+            let sum = quarter.level % 256 + times(slope, x as u64) + drawn;
+            self.pixels[k] = sum.min(255) as u8;
         }
-        if a < 3 {
-            ends[2] = end;
-        }
-        ends[3] = end;
-        return Ok(());
     }
-    if letter == b'n' {
-        noise(rt, image, w, h, n)?;
-    } else if letter == b'e' {
-        let cx = stored::int_in(text, COLUMNS, i, 0);
-        let cy = stored::int_in(text, COLUMNS, i, 1);
-        edge(rt, image, w, h, n, cx, cy)?;
-    } else if letter == b'r' {
-        windows(rt, gate, square, ends[0], ends[1], ends[2], ends[3])?;
-    } else if letter == b'm' {
-        let x = stored::float_in(text, COLUMNS, i, 0);
-        stored::report_answer(rt, "milli", floats::vuzgari_compare_milli(x))?;
-    } else {
-        print!(rt; "a line that cannot be read")?;
+
+    fn noise(&self, rt: &impl Print) -> io::Result<()> {
+        let Some(pixels) = self.lent() else {
+            return Ok(());
+        };
+        let mut ints = [0; 12288];
+        let mut floats = [0.0; 8194];
+        let mut out = [0; 40];
+        let number = vuzgari_noise(pixels, self.w, self.h, &mut ints, &mut floats, &mut out);
+        stored::report_answer(rt, "noise", number)?;
+        stored::report_bytes(rt, &out)
     }
-    println!(rt; "")
+
+    fn edge(&self, rt: &impl Print, cx: i32, cy: i32) -> io::Result<()> {
+        let Some(pixels) = self.lent() else {
+            return Ok(());
+        };
+        let code = vuzgari_edge_width(pixels, self.w, self.h, 0, 0, cx, cy);
+        print!(rt; "edge {code:08x}")
+    }
 }
 
-fn replay(rt: &impl Print, text: &[u8]) -> io::Result<()> {
-    let lines = stored::lines(text, COLUMNS);
-    let mut image = [0; 4096];
-    let mut sides = [0; 2];
-    let mut levels = [0; 8];
-    let mut gate = [0.0; 4096];
-    let mut square = [0.0; 4096];
-    let mut ends = [0; 4];
-    let mut i = 0;
-    while i < lines {
-        call(
-            rt,
-            text,
-            i,
-            &mut image,
-            &mut sides,
-            &mut levels,
-            &mut gate,
-            &mut square,
-            &mut ends,
-        )?;
-        i += 1;
+// Windows in four bands, each with its gate and its squared output, which the exported calls take as two lists. The bands end
+// before `first`, `second`, `third` and `end`.
+#[derive(Drop)]
+struct Windows {
+    gate: [f32; 4096],
+    square: [f32; 4096],
+    first: usize,
+    second: usize,
+    third: usize,
+    end: usize,
+    ghost in_order: { (first ≤ second) × (second ≤ third) × (third ≤ end) × (end ≤ 4096) },
+}
+
+impl Windows {
+    fn new() -> Windows {
+        Windows {
+            gate: [0.0; 4096],
+            square: [0.0; 4096],
+            first: 0,
+            second: 0,
+            third: 0,
+            end: 0,
+        }
     }
-    stored::report_lines(rt, text, COLUMNS)
+
+    // So many more windows with this gate and squared output, as far as there is room. The band, and those after it, end behind them.
+    fn add(&mut self, band: u64, count: usize, gate: f32, square: f32) {
+        let start = self.end;
+        let end = start.saturating_add(count).min(4096);
+        self.gate[start..end].fill(gate);
+        self.square[start..end].fill(square);
+        self.end = end;
+        match band {
+            0 => {
+                self.first = end;
+                self.second = end;
+                self.third = end;
+            }
+            1 => {
+                self.second = end;
+                self.third = end;
+            }
+            2 => self.third = end,
+            _ => {}
+        }
+    }
+
+    // What the rounds answer.
+    fn rounds(&self, rt: &impl Print) -> io::Result<()> {
+        let gate = &self.gate[..self.end];
+        let square = &self.square[..self.end];
+        let (e1, e2, e3) = (self.first, self.second, self.third);
+        let number = vuzgari_compare_noise_number(gate, square, e1, e2, e3);
+        let sigma = vuzgari_compare_noise_sigma(gate, square, e1, e2, e3);
+        let count = vuzgari_compare_noise_rounds(gate, square, e1, e2, e3);
+        stored::report_answer(rt, "windows", number)?;
+        stored::report_floats(rt, &[sigma])?;
+        print!(rt; " {count}")
+    }
+}
+
+#[derive(Drop)]
+struct Bench {
+    image: Image,
+    windows: Windows,
+}
+
+impl Calls<4> for Bench {
+    type Call = Call;
+
+    fn run(&mut self, rt: &impl Print, call: Call, columns: [u64; 4]) -> io::Result<()> {
+        let [a, b, c, d] = columns;
+        match call {
+            Call::Image => {
+                self.image.w = a as usize;
+                self.image.h = b as usize;
+                return Ok(());
+            }
+            Call::Level => {
+                self.image.quarters[(a % 4) as usize] = Quarter { level: b, share: c };
+                return Ok(());
+            }
+            Call::Fill => {
+                self.image.fill(a, b);
+                return Ok(());
+            }
+            Call::Pixel => {
+                self.image.set(a, b, (c % 256) as u8);
+                return Ok(());
+            }
+            Call::Bands => {
+                self.windows = Windows::new();
+                return Ok(());
+            }
+            Call::Windows => {
+                self.windows.add(a, b as usize, f32::of(c), f32::of(d));
+                return Ok(());
+            }
+            Call::Noise => self.image.noise(rt)?,
+            Call::Edge => self.image.edge(rt, i32::of(a), i32::of(b))?,
+            Call::Rounds => self.windows.rounds(rt)?,
+            Call::Milli => {
+                stored::report_answer(rt, "milli", vuzgari_compare_milli(f32::of(a)))?
+            }
+        }
+        println!(rt; "")
+    }
 }
 
 fn main(rt: HostRuntime) -> io::Result<()> {
-    let mut room = [0; 65536];
-    let filled = streams::read_full(&mut rt.stdin(), &mut room);
-    if let Some(why) = filled.failed {
-        return Err(why);
-    }
-    replay(&rt, &room[..filled.count])
+    let mut bench = Bench {
+        image: Image {
+            pixels: [0; 4096],
+            w: 0,
+            h: 0,
+            quarters: [Quarter { level: 0, share: 0 }; 4],
+        },
+        windows: Windows::new(),
+    };
+    stored::replay(&rt, &mut bench)
 }

@@ -7,7 +7,7 @@ ghost use Rattle.std.specs.Io.KnownBytes.{Consumes, IsAtEnd};
 use arrayvec::ArrayString;
 use std::env::{Env, FillError};
 use std::fmt::Write;
-use std::io::{Eprint, Error, Read};
+use std::io::{Eprint, Error, Print, Read};
 
 // As many bytes as the system's words for an error may take.
 const WORD_BYTES: usize = 300;
@@ -19,7 +19,8 @@ pub struct Filled {
     pub failed: Option<Error>,
 }
 
-// Reads until the room is full, the input ends or a read fails. A read that a signal interrupts counts as one that failed.
+// Reads until the room is full, the input ends or a read fails. A read that a signal interrupts counts as one that failed. The
+// loop goes on by as many bytes as a read gives, which no range counts.
 pub fn read_full<R: Read>(input: &mut R, room: &mut [u8]) -> Filled
     ensures in_bounds { result.count ≤ length room.new }
     ensures taken { Consumes (R.remaining input.old) (R.remaining input.new) (take result.count room.new) }
@@ -59,9 +60,9 @@ pub fn has_words(rt: &impl Env) -> bool {
     }
 }
 
-// Says on standard error that `what` failed, and why in the system's words, without its number. Where that cannot be written,
-// nothing is said.
-pub fn complain(rt: &impl Eprint, what: &str, why: Error) {
+// Says on standard error that a program's stream failed, and why in the system's words, without its number. Where that cannot be
+// written, nothing is said.
+pub fn complain(rt: &impl Eprint, program: &str, stream: &str, why: Error) {
     let mut text = ArrayString::<WORD_BYTES>::new();
     let _ = write!(text, "{why}");
     let whole = text.as_str();
@@ -69,5 +70,27 @@ pub fn complain(rt: &impl Eprint, what: &str, why: Error) {
         Some((word, _)) => word,
         None => whole,
     };
-    let _ = eprintln!(rt; "{what}: {word}");
+    let _ = eprintln!(rt; "{program}: {stream}: {word}");
+}
+
+// The bytes on standard input, as far as there is room, of a program that takes no words. Standard error says what is amiss.
+pub fn read_input<'a>(rt: &HostRuntime, program: &str, usage: &str, room: &'a mut [u8]) -> &'a [u8]
+    ensures fits { length result.now ≤ length room.old }
+{
+    if has_words(rt) {
+        let _ = eprintln!(rt; "{program}: it takes no words and reads {usage}");
+    }
+    let filled = read_full(&mut rt.stdin(), room);
+    if let Some(why) = filled.failed {
+        complain(rt, program, "standard input", why);
+    }
+    &room[..filled.count]
+}
+
+// Writes a program's output, and after it what is said on standard error.
+pub fn write_all(rt: &HostRuntime, program: &str, output: &str, remark: &str) {
+    if let Err(why) = rt.write_all(output.as_bytes()) {
+        complain(rt, program, "standard output", why);
+    }
+    let _ = rt.stderr().write_all(remark.as_bytes());
 }

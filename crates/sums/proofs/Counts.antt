@@ -1,5 +1,5 @@
 -- How many pass a test, one after the other and part by part. Assumes nothing.
-use Rattle.std.proofs.Common.{◌≡◌, ℕ, zero, suc, ◌+◌, ◌<◌, ◌≤◌, Bool, cond, sym, refl, ap, ◌∙◌, le_antisymm, add-one, arith}
+use Rattle.std.proofs.Common.{◌≡◌, ℕ, zero, suc, ◌+◌, ◌≤◌, Bool, cond, ap, ◌∙◌, le_antisymm, arith}
 use Rattle.laws.proofs.Choice.{cond_both}
 use Rattle.quantile.specs.Tally.{tally}
 
@@ -29,16 +29,9 @@ pub record Tallied (b : ℕ → Bool) (n m k : ℕ) : Type 0 where
   pub low : k ≤ n
   pub count : m ≡ tally b k
 
-pub tallied_start : (b : ℕ → Bool) (n : ℕ) → Tallied b n 0 0
-tallied_start b n = record { low = omega arith; count = refl }
-
 module _ (b : ℕ → Bool) {n m k : ℕ} (t : Tallied b n m k) where
   pub tallied_few : m ≤ k
   tallied_few = omega (arith, t.count, tally_few b k)
-
-  pub tallied_more : k < n → {d : ℕ} → d ≡ cond (b k) 1 0 → Tallied b n (m + d) (k + 1)
-  tallied_more h {d} q =
-      record { low = omega arith; count = ap (λ (x : ℕ). x + d) t.count ∙ ap (λ (x : ℕ). tally b k + x) q ∙ sym (ap (tally b) (add-one k)) }
 
   pub tallied_end : n ≤ k → m ≡ tally b n
   tallied_end h = t.count ∙ ap (tally b) (le_antisymm t.low h)

@@ -2,9 +2,8 @@
 use Rattle.std.proofs.Common.{◌≡◌, ℕ, ◌≤◌, eqb, List, length, ap, ◌∙◌, le_antisymm, eq-eqb, ne_eqb}
 use lib.Ieee.{Float, binary64, div}
 use Rattle.laws.proofs.Choice.{chosen, passed}
-use Rattle.quantile.specs.Quantile.{quiet}
 use Rattle.ieee.specs.Numbers.{plus_zero, f64_of}
-use Rattle.sums.specs.Start.{is_quiet, quiet_sum, mean, mean_quiet, start}
+use Rattle.sums.specs.Start.{is_quiet, quiet_sum, mean, mean_quiet}
 use Rattle.sums.proofs.Counts.{Tallied, tallied_few, tallied_end}
 
 pub mean_none : (sum : Float) (n : ℕ) → n ≡ 0 → plus_zero ≡ mean sum n
@@ -28,7 +27,3 @@ module _ {o g : List Float} {q s : Float} {n k : ℕ} (i : Quiet o g q s n k) wh
   quiet_end h {r} e =
       e ∙ ap (λ (x : Float). mean x n) (i.sum ∙ ap (quiet_sum o g q) (le_antisymm i.counted.low h))
       ∙ ap (mean (quiet_sum o g q (length g))) (tallied_end (is_quiet g q) i.counted h)
-
-pub start_is : (g o : List Float) {q : Float} → q ≡ quiet g → {r : Float} → r ≡ mean_quiet o g q → r ≡ start g o
-unfolding start
-start_is g o p e = e ∙ ap (mean_quiet o g) p

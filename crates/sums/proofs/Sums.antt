@@ -1,21 +1,14 @@
--- What the loops of `block_sum` and `admitted` keep. Assumes nothing.
+-- What the loop of `admitted` keeps. Assumes nothing.
 use Rattle.std.proofs.Common.{◌≡◌, ℕ, suc, ◌+◌, ◌-◌, ◌*◌, ◌<◌, ◌≤◌, min, Bool, List, length, sym, refl, ap, ◌∙◌, add-one, arith}
 use lib.Ieee.{Float, binary32, binary64, add}
 use Rattle.quantile.specs.Tally.{tally}
 use Rattle.quantile.specs.Rising.{at}
-use Rattle.ieee.specs.Numbers.{plus_zero}
 use Rattle.sums.specs.Admitted.{threshold, cut, keeps, value, block_sum, blocks_sum, blocks, admitted_at}
 use Rattle.sums.proofs.Counts.{tally_few, tally_add}
 
 module _ (t c : Float) (g o : List Float) where
   abbrev pub kept : ℕ → Bool
   kept k = keeps t c (at g k) (at o k)
-
--- ---- one block: the first k of its windows
-
-pub record Summed (t c : Float) (g o : List Float) (a m : ℕ) (s : Float) (k : ℕ) : Type 0 where
-  pub low : k ≤ m
-  pub sum : s ≡ block_sum t c g o a k
 
 -- a window more, added to a block's sum
 pub sum_next : (t c : Float) (g o : List Float) (a k : ℕ) {s v : Float} → s ≡ block_sum t c g o a k → v ≡ value t c (at g (a + k)) (at o (a + k))
@@ -32,12 +25,6 @@ pub record Added (t c : Float) (g o : List Float) (s : Float) (n i : ℕ) : Type
   pub low : i ≤ blocks (length g)
   pub sum : s ≡ blocks_sum t c g o i
   pub count : n ≡ tally (kept t c g o) (min (i * 256) (length g))
-
-pub added_start : (t c : Float) (g o : List Float) → Added t c g o plus_zero 0 0
-added_start t c g o = record { low = omega arith; sum = refl; count = ap (tally (kept t c g o)) (none (length g)) }
-  where
-    none : (l : ℕ) → 0 ≡ min (0 * 256) l
-    none l = omega arith
 
 module _ {t c : Float} {g o : List Float} {s : Float} {n i : ℕ} (I : Added t c g o s n i) where
   pub added_few : n ≤ length g

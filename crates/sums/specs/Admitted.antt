@@ -10,12 +10,16 @@ use Rattle.ieee.specs.Numbers.{plus_zero}
 use Rattle.sums.specs.Numbers.{gate_factor, trunc, rounding_op_var}
 use Rattle.sums.specs.declared.Total.{Total}
 
--- a gate is below the one, a squared output at most the other: both products are rounded to f64 and then to f32
+-- so many times a variance, rounded to f64 and then to f32
+abbrev pub limit : Float → Float → Float
+limit factor var = convert binary32 (mul binary64 factor (larger var rounding_op_var))
+
+-- a gate is below the one, a squared output at most the other
 unfoldable pub threshold : Float → Float
-threshold var = convert binary32 (mul binary64 gate_factor (larger var rounding_op_var))
+threshold var = limit gate_factor var
 
 unfoldable pub cut : Float → Float
-cut var = convert binary32 (mul binary64 (mul binary64 trunc trunc) (larger var rounding_op_var))
+cut var = limit (mul binary64 trunc trunc) var
 
 -- a window of that gate and output is admitted, and adds so much to its block
 abbrev pub keeps : Float → Float → Float → Float → Bool

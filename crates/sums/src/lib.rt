@@ -1,17 +1,12 @@
-// Sums over a band's windows: noise.rs, `Band::admitted` and `mean_quiet`. A band is two parts of the one f32 slice, equally
-// long: the gates of its windows and their squared outputs.
+// Sums over a band's windows: noise.rs, `Band::admitted` and `mean_quiet`.
 #![tactic(auto)]
 
-ghost use Rattle.std.specs.Prelude.{◌≡◌, ℕ, ◌+◌, ◌-◌, ◌*◌, ◌<◌, ◌≤◌, min, length, if◌then◌else◌};
-ghost use Rattle.std.specs.Float.{binary64};
-ghost use Rattle.std.specs.Float.Ieee.{add, le};
-ghost use Rattle.ieee.specs.Numbers.{f64_of};
+ghost use Rattle.std.specs.Prelude.{◌≡◌, ℕ, ◌+◌, ◌-◌, ◌*◌, ◌<◌, ◌≤◌, length, slice_range, if◌then◌else◌};
 ghost use Rattle.quantile.specs.Tally.{tally};
 ghost use Rattle.quantile.specs.Rising.{at};
 ghost use Rattle.sums.specs.Admitted as Admitted;
-ghost use Rattle.sums.specs.Admitted.{keeps, block_sum, block_count, blocks_sum, admitted_at};
+ghost use Rattle.sums.specs.Admitted.{keeps, threshold, cut, block_sum, block_count, blocks_sum, admitted_at};
 ghost use Rattle.sums.specs.Lanes.{Lanes, CountsFit, lanes_sum, lanes_count};
-ghost use Rattle.sums.specs.Start as Start;
 ghost use Rattle.sums.specs.Start.{mean_quiet};
 
 // A window's gate is kept below this many times the variance.
@@ -32,228 +27,193 @@ pub struct Total {
     pub sum: f64,
 }
 
-// The windows of a band whose gate is below 20 times gate_var and whose squared output is at most 16 times op_var, where
-// neither variance counts as less than 400 / 12.
-pub fn admitted(gate: &[f32], op: &[f32], gate_var: f64, op_var: f64) -> Total
-    requires { length gate.now ≡ length op.now }
-    ensures { result ≡ admitted_at gate.now op.now gate_var op_var }
+// What a variance admits: a window whose gate is below the one and whose squared output is at most the other.
+#[derive(Clone, Copy)]
+struct Limits {
+    gate: f32,
+    op: f32,
+}
+
+// So many times a variance, which counts as 400 / 12 at least.
+fn limit(factor: f64, var: f64) -> f32
+    ensures { result ≡ Admitted.limit factor var }
 {
-    let t = threshold(gate_var);
-    let c = cut(op_var);
-    let m = gate.len() / (LANES * BLOCK);
-    let k = side_by_side(gate, op, m, t, c);
-    let mut sum = k.sum;
-    let mut n = k.n;
-    let mut i = m * LANES;
-    while i * BLOCK < gate.len() {
-        let a = i * BLOCK;
-        let len = block_len(gate.len(), a);
-        sum = sum + std::num::f32_to_f64_with_nan(block_sum(gate, op, a, len, t, c));
-        n = n + block_count(gate, op, a, len, t, c);
-        i += 1;
+    convert::to_f32(factor * float::max(var, ROUNDING_OP_VAR))
+}
+
+impl Limits {
+    fn new(gate_var: f64, op_var: f64) -> Limits
+        ensures { (result.gate ≡ threshold gate_var) × (result.op ≡ cut op_var) }
+    {
+        Limits {
+            gate: limit(GATE, gate_var),
+            op: limit(TRUNC * TRUNC, op_var),
+        }
     }
-    Total { n: n, sum: sum }
-}
 
-// An admitted window's gate is below this.
-fn threshold(var: f64) -> f32
-    ensures { result ≡ Admitted.threshold var }
-{
-    convert::to_f32(GATE * float::max64(var, ROUNDING_OP_VAR))
-}
-
-// An admitted window's squared output is at most this.
-fn cut(var: f64) -> f32
-    ensures { result ≡ Admitted.cut var }
-{
-    convert::to_f32(TRUNC * TRUNC * float::max64(var, ROUNDING_OP_VAR))
-}
-
-// How many of len windows the block from window a on has.
-fn block_len(len: usize, a: usize) -> usize
-    requires { a ≤ len }
-    ensures { result ≡ min 256 (len - a) }
-{
-    if len - a < BLOCK { len - a } else { BLOCK }
-}
-
-// The sum of the admitted ones of the m windows from window a on. Sum and count by a loop each have no jump a window.
-fn block_sum(gate: &[f32], op: &[f32], a: usize, m: usize, t: f32, c: f32) -> f32
-    requires { (a + m ≤ length gate.now) × (a + m ≤ length op.now) }
-    ensures { result ≡ block_sum t c gate.now op.now a m }
-{
-    let mut sum = 0.0f32;
-    let mut k: usize = 0;
-    while k < m {
-        let g = gate[a + k];
-        let o = op[a + k];
-        sum = sum + value(g, o, t, c);
-        k += 1;
+    // Whether a window is admitted. No jump turns on it.
+    fn keeps(self, gate: f32, op: f32) -> bool
+        ensures { result ≡ keeps self.gate self.op gate op }
+    {
+        (gate < self.gate) & (op <= self.op)
     }
-    sum
-}
 
-// How many of them are admitted.
-fn block_count(gate: &[f32], op: &[f32], a: usize, m: usize, t: f32, c: f32) -> usize
-    requires { (a + m ≤ length gate.now) × (a + m ≤ length op.now) × (m ≤ 256) }
-    ensures { result ≡ block_count t c gate.now op.now a m }
-{
-    let mut n: u32 = 0;
-    let mut k: usize = 0;
-    while k < m {
-        let g = gate[a + k];
-        let o = op[a + k];
-        n = n + one(g, o, t, c);
-        k += 1;
+    // What a window adds to its block's sum.
+    fn value(self, gate: f32, op: f32) -> f32
+        ensures { result ≡ Admitted.value self.gate self.op gate op }
+    {
+        if self.keeps(gate, op) { op } else { 0.0 }
     }
-    n as usize
-}
 
-// The first m times eight blocks, eight at a time, so that no sum waits on one chain of additions.
-fn side_by_side(gate: &[f32], op: &[f32], m: usize, t: f32, c: f32) -> Total
-    requires { (length gate.now ≡ length op.now) × (m * 2048 ≤ length gate.now) }
-    ensures { (result.n ≡ tally (λ (k : ℕ). keeps t c (at gate.now k) (at op.now k)) (m * 2048))
-        × (result.sum ≡ blocks_sum t c gate.now op.now (m * 8)) }
-{
-    let mut k = Total { n: 0, sum: 0.0 };
-    let mut j: usize = 0;
-    while j < m {
-        let a = j * (LANES * BLOCK);
-        let mut block = [0.0f32; 8];
-        let mut count = [0u32; 8];
-        lanes(gate, op, a, t, c, &mut block, &mut count);
-        k = add_lanes(k, &block, &count);
-        j += 1;
-    }
-    k
-}
-
-// The eight blocks from window a on, a lane each.
-fn lanes(
-    gate: &[f32],
-    op: &[f32],
-    a: usize,
-    t: f32,
-    c: f32,
-    block: &mut [f32; 8],
-    count: &mut [u32; 8],
-)
-    requires { (a + 2048 ≤ length gate.now) × (a + 2048 ≤ length op.now)
-        × Lanes t c gate.now op.now a 0 block.old count.old }
-    ensures { Lanes t c gate.now op.now a 256 block.new count.new }
-{
-    let mut i: usize = 0;
-    while i < BLOCK {
-        add_window(gate, op, a, i, t, c, block, count);
-        i += 1;
+    // What a window adds to its block's count.
+    fn one(self, gate: f32, op: f32) -> u32
+        ensures same { result ≡ (if keeps self.gate self.op gate op then 1 else 0) }
+        ensures few { result ≤ 1 }
+    {
+        u32::from(self.keeps(gate, op))
     }
 }
 
-// Window i of each of the eight blocks.
-fn add_window(
-    gate: &[f32],
-    op: &[f32],
-    a: usize,
-    i: usize,
-    t: f32,
-    c: f32,
-    block: &mut [f32; 8],
-    count: &mut [u32; 8],
-)
-    requires { (a + 2048 ≤ length gate.now) × (a + 2048 ≤ length op.now) × (i < 256)
-        × Lanes t c gate.now op.now a i block.old count.old }
-    ensures { Lanes t c gate.now op.now a (i + 1) block.new count.new }
-{
-    let mut l: usize = 0;
-    while l < LANES {
-        let g = gate[a + l * BLOCK + i];
-        let o = op[a + l * BLOCK + i];
-        let s = block[l];
-        let n = count[l];
-        block[l] = s + value(g, o, t, c);
-        count[l] = n + one(g, o, t, c);
-        l += 1;
+// The windows of a band: their gates, and as many squared outputs.
+#[derive(Clone, Copy)]
+pub struct Band<'a> {
+    pub gate: &'a [f32],
+    pub op: &'a [f32],
+    ghost same: { length gate.now ≡ length op.now },
+}
+
+impl<'a> Band<'a> {
+    // The windows from a to e.
+    pub fn part(self, a: usize, e: usize) -> Band<'a>
+        requires { (a ≤ e) × (e ≤ length self.gate.now) }
+        ensures { (result.gate.now ≡ slice_range self.entry.gate.now a e)
+            × (result.op.now ≡ slice_range self.entry.op.now a e) }
+    {
+        Band {
+            gate: &self.gate[a..e],
+            op: &self.op[a..e],
+        }
     }
-}
 
-// k and the eight lanes, in block order.
-fn add_lanes(k: Total, block: &[f32; 8], count: &[u32; 8]) -> Total
-    requires { (k.n < 9223372036854775808) × CountsFit count.now }
-    ensures { (result.n ≡ lanes_count count.now k.n 8) × (result.sum ≡ lanes_sum block.now k.sum 8) }
-{
-    let mut n = k.n;
-    let mut sum = k.sum;
-    let mut l: usize = 0;
-    while l < LANES {
-        let s = block[l];
-        let d = count[l];
-        sum = sum + std::num::f32_to_f64_with_nan(s);
-        n = n + (d as usize);
-        l += 1;
+    // The windows whose gate is below 20 times gate_var and whose squared output is at most 16 times op_var, where neither
+    // variance counts as less than 400 / 12.
+    pub fn admitted(self, gate_var: f64, op_var: f64) -> Total
+        ensures { result ≡ admitted_at self.entry.gate.now self.entry.op.now gate_var op_var }
+    {
+        let limits = Limits::new(gate_var, op_var);
+        let eights = self.gate.len() / (LANES * BLOCK);
+        let mut k = self.side_by_side(eights, limits);
+        for i in eights * LANES..self.gate.len().div_ceil(BLOCK) {
+            let a = i * BLOCK;
+            let m = BLOCK.min(self.gate.len() - a);
+            k.sum += f64::from(self.block_sum(a, m, limits));
+            k.n += self.block_count(a, m, limits);
+        }
+        k
     }
-    Total { n: n, sum: sum }
-}
 
-// What a window adds to its block's sum.
-fn value(g: f32, o: f32, t: f32, c: f32) -> f32
-    ensures { result ≡ Admitted.value t c g o }
-{
-    if (g < t) & (o <= c) { o } else { 0.0 }
-}
-
-// What a window adds to its block's count.
-fn one(g: f32, o: f32, t: f32, c: f32) -> u32
-    ensures { (result ≡ (if keeps t c g o then 1 else 0)) × (result ≤ 1) }
-{
-    if (g < t) & (o <= c) { 1 } else { 0 }
-}
-
-// The mean squared output of the windows whose gate is at most quiet (0 if none), summed in window order.
-pub fn mean_quiet(op: &[f32], gate: &[f32], quiet: f32) -> f64
-    requires { length gate.now ≡ length op.now }
-    ensures { result ≡ mean_quiet op.now gate.now quiet }
-{
-    let mut sum = 0.0f64;
-    let mut n: usize = 0;
-    let mut k: usize = 0;
-    while k < gate.len() {
-        let g = gate[k];
-        let o = op[k];
-        sum = add_quiet(sum, g, o, quiet);
-        n = n + one_quiet(g, quiet);
-        k += 1;
-    }
-    mean(sum, n)
-}
-
-// sum, and o where the gate is quiet.
-fn add_quiet(sum: f64, g: f32, o: f32, quiet: f32) -> f64
-    ensures { result ≡ (if le g quiet then add binary64 sum o else sum) }
-{
-    if g <= quiet {
-        sum + std::num::f32_to_f64_with_nan(o)
-    } else {
+    // The sum of the admitted ones of the m windows from window a on. Sum and count by a loop each have no jump a window.
+    fn block_sum(self, a: usize, m: usize, limits: Limits) -> f32
+        requires { a + m ≤ length self.gate.now }
+        ensures { result ≡ block_sum limits.gate limits.op self.entry.gate.now self.entry.op.now a m }
+    {
+        let mut sum = 0.0f32;
+        for k in 0..m {
+            sum += limits.value(self.gate[a + k], self.op[a + k]);
+        }
         sum
     }
+
+    // How many of them are admitted.
+    fn block_count(self, a: usize, m: usize, limits: Limits) -> usize
+        requires { (a + m ≤ length self.gate.now) × (m ≤ 256) }
+        ensures { result ≡ block_count limits.gate limits.op self.entry.gate.now self.entry.op.now a m }
+    {
+        let mut n = 0u32;
+        for k in 0..m {
+            n += limits.one(self.gate[a + k], self.op[a + k]);
+        }
+        n as usize
+    }
+
+    // The first m times eight blocks, eight at a time, so that no sum waits on one chain of additions.
+    fn side_by_side(self, m: usize, limits: Limits) -> Total
+        requires { m * 2048 ≤ length self.gate.now }
+        ensures n { result.n
+            ≡ tally (λ (k : ℕ). keeps limits.gate limits.op (at self.entry.gate.now k) (at self.entry.op.now k)) (m * 2048) }
+        ensures sum { result.sum ≡ blocks_sum limits.gate limits.op self.entry.gate.now self.entry.op.now (m * 8) }
+    {
+        let mut k = Total { n: 0, sum: 0.0 };
+        for j in 0..m {
+            k = self.eight(j * (LANES * BLOCK), limits).added_to(k);
+        }
+        k
+    }
+
+    // The eight blocks from window a on.
+    fn eight(self, a: usize, limits: Limits) -> Eight
+        requires { a + 2048 ≤ length self.gate.now }
+        ensures { Lanes limits.gate limits.op self.entry.gate.now self.entry.op.now a 256 result.sums result.counts }
+    {
+        let mut eight = Eight {
+            sums: [0.0; LANES],
+            counts: [0; LANES],
+        };
+        for i in 0..BLOCK {
+            eight.add_window(self, a, i, limits);
+        }
+        eight
+    }
+
+    // The mean squared output of the windows whose gate is at most quiet (0 if none), summed in window order.
+    pub fn mean_quiet(self, quiet: f32) -> f64
+        ensures { result ≡ mean_quiet self.entry.op.now self.entry.gate.now quiet }
+    {
+        let mut sum = 0.0f64;
+        let mut n: usize = 0;
+        for k in 0..self.gate.len() {
+            if self.gate[k] <= quiet {
+                sum += f64::from(self.op[k]);
+                n += 1;
+            }
+        }
+        if n == 0 {
+            return 0.0;
+        }
+        sum / std::num::nearest_usize_to_f64(n)
+    }
 }
 
-// 1 where the gate is quiet.
-fn one_quiet(g: f32, quiet: f32) -> usize
-    ensures { (result ≡ (if le g quiet then 1 else 0)) × (result ≤ 1) }
-{
-    if g <= quiet { 1 } else { 0 }
+// The sums and the counts of eight blocks, a lane each.
+#[derive(Clone, Copy)]
+struct Eight {
+    sums: [f32; LANES],
+    counts: [u32; LANES],
 }
 
-// The mean of n numbers of that sum.
-fn mean(sum: f64, n: usize) -> f64
-    ensures { result ≡ Start.mean sum n }
-{
-    if n == 0 { 0.0 } else { sum / f64_of(n) }
-}
+impl Eight {
+    // Window i of each of the eight blocks from window a on.
+    fn add_window(&mut self, band: Band, a: usize, i: usize, limits: Limits)
+        requires { (a + 2048 ≤ length band.gate.now) × (i < 256)
+            × Lanes limits.gate limits.op band.gate.now band.op.now a i self.old.sums self.old.counts }
+        ensures { Lanes limits.gate limits.op band.entry.gate.now band.entry.op.now a (i + 1) self.new.sums self.new.counts }
+    {
+        for l in 0..LANES {
+            let k = a + l * BLOCK + i;
+            self.sums[l] += limits.value(band.gate[k], band.op[k]);
+            self.counts[l] += limits.one(band.gate[k], band.op[k]);
+        }
+    }
 
-// n as an f64.
-pub fn f64_of(n: usize) -> f64
-    ensures { result ≡ f64_of n }
-{
-    std::num::nearest_u64_to_f64(n as u64)
+    // k and the eight lanes, in block order.
+    fn added_to(self, mut k: Total) -> Total
+        requires { (k.n < 9223372036854775808) × CountsFit self.counts }
+        ensures { (result.n ≡ lanes_count self.counts k.n 8) × (result.sum ≡ lanes_sum self.sums k.sum 8) }
+    {
+        for l in 0..LANES {
+            k.sum += f64::from(self.sums[l]);
+            k.n += self.counts[l] as usize;
+        }
+        k
+    }
 }

@@ -2,34 +2,32 @@
 #![tactic(auto)]
 
 ghost use Rattle.std.specs.Prelude.{◌≡◌, ◌+◌, ◌*◌, ◌<◌, ◌≤◌};
-ghost use Rattle.support.specs.Support.{state_number};
+ghost use Rattle.support.specs.Support.{state_judged};
 ghost use Rattle.support.specs.Steps.{past_origin};
 
-// What refuses a support: 8, then 10, or 0.
+use numbers::Number;
+
+// What refuses a support, if anything does.
 #[tactic(auto, unfolding(crate::specs::Support::after_state))]
-pub fn state_number(origin: [i32; 2], side: usize) -> u32
-    ensures { result ≡ state_number origin side }
+pub fn judge(origin: [i32; 2], side: usize) -> Result<(), Number>
+    ensures { result ≡ state_judged origin side }
 {
     if limits::far_place(origin) {
-        return 8;
+        return Err(Number::Far);
     }
     if side > 32 {
-        return 10;
+        return Err(Number::Support);
     }
-    0
+    Ok(())
 }
 
-// How far x lies past o, or `side` where that isn't one of the `side` places from o on.
+// How far x lies past o, where that is one of the `side` places from o on.
 #[tactic(auto, unfolding(crate::specs::Steps::past))]
-pub fn past_origin(x: i32, o: i32, side: usize) -> usize
+pub fn past_origin(x: i32, o: i32, side: usize) -> Option<usize>
     ensures { result ≡ past_origin x o side }
 {
-    let d = (x as i64) - (o as i64);
-    if d < 0 {
-        return side;
-    }
-    let i = d as usize;
-    if i < side { i } else { side }
+    let i = usize::try_from(i64::from(x) - i64::from(o)).ok()?;
+    (i < side).then_some(i)
 }
 
 // The cell of the pixel in row j and column i of the support.

@@ -1,14 +1,16 @@
 -- How many decimal digits: `places` is the fewest, and there is one such number. Assumes nothing.
-use mathlib.Core.Path.{◌≡◌, refl, ◌∙◌, subst}
+use mathlib.Core.Path.{◌≡◌, refl, sym, ◌∙◌, subst}
 use mathlib.Core.Bool.{Bool, true, false, cond}
 use Prim.Native.Nat.{ℕ, zero, suc, ◌+◌, ◌*◌, ◌-◌, ◌/◌, ◌^◌, ◌%◌, ◌≤◌, ◌<◌}
 use native.Mathlib.Omega.{arith}
 use native.Mathlib.Nat.{pow-le-pow_right}
 use lib.Dec.{T, ltb, ltb→lt, nltb→le}
 use mathlib.Core.Bool.{not}
+use borrow.Author.Tests.{ltb-true, ltb-false, ne_eqb}
 use Rattle.io.specs.Digits.{IsDigitCount, last_digits, hex_digit_ascii}
-use mathlib.Core.List.{[], ◌∷◌}
+use mathlib.Core.List.{List, [], ◌∷◌, ◌++◌, append-nil, append_assoc}
 use lib.ListN.{length, length-append}
+use Rattle.std.specs.Fmt.{digits_onto, digits, decimal}
 use Rattle.text.specs.Numerals.{places, decimal_of}
 
 pick : (c : Bool) (x y : ℕ) (P : ℕ → Type 0) → (T c → P x) → (T (not c) → P y) → P (cond c x y)
@@ -81,3 +83,32 @@ length_digits b (suc k) n = length-append (last_digits b k (n / b)) (hex_digit_a
 pub decimal_short : (n : ℕ) → length (decimal_of n) ≤ 20
 unfolding decimal_of
 decimal_short n = omega (arith, length_digits 10 (places 19 n) n, most 19 n)
+
+-- ---- std's decimal text is this one
+
+small_tenth : (n : ℕ) → n < 10 → n / 10 ≡ 0
+small_tenth n h = omega arith
+
+onto : (f k n : ℕ) (acc : List ℕ) → f ≤ k → n < 10 ^ suc f → digits_onto (suc k) 10 false n acc ≡ last_digits 10 (places f n) n ++ acc
+unfolding places
+onto zero k n acc l h = rw (small_tenth n h) refl
+onto (suc f) zero n acc l h = absurd (none l)
+  where
+    none : suc f ≤ 0 → ⊥
+    none l = omega arith
+onto (suc f) (suc k) n acc l h = by (λ a r. onto f k (n / 10) a (omega arith) r) (ltb n 10) refl
+  where
+    by : ((a : List ℕ) → n / 10 < 10 ^ suc f → digits_onto (suc k) 10 false (n / 10) a ≡ last_digits 10 (places f (n / 10)) (n / 10) ++ a)
+        → (b : Bool) → ltb n 10 ≡ b → digits_onto (suc (suc k)) 10 false n acc ≡ last_digits 10 (cond b 1 (suc (places f (n / 10)))) n ++ acc
+    by on true t = rw (small_tenth n (ltb-true n 10 t)) refl
+    by on false t =
+        rw (ne_eqb (n / 10) 0 (λ z. omega (arith, z, ltb-false n 10 t)))
+        (on (hex_digit_ascii (n % 10) ∷ acc) (less (10 ^ suc f) (10 ^ suc (suc f)) (tens (suc f)) h)
+        ∙ sym (append_assoc (last_digits 10 (places f (n / 10)) (n / 10)) (hex_digit_ascii (n % 10) ∷ []) acc))
+      where
+        less : (p q : ℕ) → q ≡ 10 * p → n < q → n / 10 < p
+        less p q e h = omega arith
+
+pub decimal_is : (n : ℕ) → n < 18446744073709551616 → decimal n ≡ decimal_of n
+unfolding decimal_of digits
+decimal_is n h = onto 19 63 n [] (omega arith) (omega arith) ∙ append-nil (last_digits 10 (places 19 n) n)

@@ -1,4 +1,3 @@
--- Laws on numerals and on texts laid one after the other.
+-- Laws on numerals and on lines.
 pub mod Decimals
-pub mod Lays
-pub mod Fields
+pub mod Lines

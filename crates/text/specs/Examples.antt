@@ -1,5 +1,6 @@
 -- Numerals and lines by example.
 use Rattle.std.specs.Prelude.{◌≡◌, refl, [], ◌∷◌}
+use Rattle.text.specs.declared.Field.TheVariants.{Decimal, Hex}
 use Rattle.text.specs.Text.{as_bytes}
 use Rattle.text.specs.Numerals.{places, decimal_of, digit_of, hex8_of}
 use Rattle.text.specs.Line.{field_of, line_of}
@@ -18,6 +19,6 @@ unfolding digit_of
 capitals = (refl, refl)
 
 -- one space between fields, hex 0A after the last
-pub line : line_of (0 ∷ 1 ∷ 2 ∷ []) (7 ∷ 4294967295 ∷ 12 ∷ []) ≡ as_bytes "7 FFFFFFFF 12\n"
+pub line : line_of (Decimal 7 ∷ Hex 4294967295 ∷ Decimal 12 ∷ []) ≡ as_bytes "7 FFFFFFFF 12\n"
 unfolding line_of field_of decimal_of places digit_of
 line = refl

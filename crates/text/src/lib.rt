@@ -1,112 +1,116 @@
-// Numbers and lines of fields as text, in lent bytes.
+// Numbers and lines of fields as text, appended to a text of fixed room: by `push_str` and not by `write!`, whose contract does
+// not say where it fails, so that no caller could show that all is written.
 #![tactic(auto)]
 
-ghost use Rattle.std.specs.Prelude.{◌≡◌, ◌+◌, ◌*◌, ◌<◌, ◌≤◌, length};
-ghost use Rattle.laws.specs.Lists.{laid};
+ghost use Rattle.std.specs.Prelude.{◌≡◌, ◌+◌, ◌*◌, ◌<◌, ◌≤◌, ◌++◌, ◌∷◌, [], length};
 ghost use Rattle.text.specs.Numerals.{decimal_of, digit_of, hex4_of, hex8_of};
-ghost use Rattle.text.specs.Line.{field_of, field_then, end_of, line_of, under};
-ghost use Rattle.text.specs.Placed.{LaidTo, Fronted};
+ghost use Rattle.text.specs.Line.{field_of, end_of, line_of, under};
+ghost use Rattle.text.specs.Placed.{Fronted};
 
-// Lays s over what stands from place `at` on, and answers where it ends. All other bytes stay, here and below.
-pub fn put(out: &mut [u8], at: usize, s: &[u8]) -> usize
-    requires { at + length s.now ≤ length out.old }
-    ensures { LaidTo out.old at s.now result out.new }
-{
-    let mut k = 0;
-    while k < s.len() {
-        out[at + k] = s[k];
-        k += 1;
-    }
-    at + k
+use arrayvec::ArrayString;
+use itoa::Buffer;
+
+// A field of a line: in decimal without leading zeros, or as eight hexadecimal digits in capitals.
+#[derive(Clone, Copy, Debug, PartialEq, Eq)]
+pub enum Field {
+    Decimal(u64),
+    Hex(u32),
 }
 
 // n in decimal, without leading zeros.
-pub fn put_decimal(out: &mut [u8], at: usize, n: u64) -> usize
-    requires { at + 20 ≤ length out.old }
-    ensures { LaidTo out.old at (decimal_of n) result out.new }
+pub fn push_decimal<const N: usize>(text: &mut ArrayString<N>, n: u64)
+    requires { length text.old.bytes + 20 ≤ N }
+    ensures bytes { text.new.bytes ≡ text.old.bytes ++ decimal_of n }
+    ensures short { length text.new.bytes ≤ length text.old.bytes + 20 }
 {
-    let mut text = [0u8; 20];
-    let k = io::decimal(n, &mut text);
-    put(out, at, &text[..k])
+    let mut digits = Buffer::new();
+    text.push_str(digits.format(n));
 }
 
-fn digit(d: u32) -> u8
+#[tactic(auto, unfolding(crate::specs::Numerals::digit_of))]
+fn digit(d: u32) -> char
     requires { d < 16 }
-    ensures { result ≡ digit_of d }
+    ensures value { result ≡ digit_of d }
+    ensures ascii { result < 128 }
 {
-    if d < 10 { 48 + d as u8 } else { 55 + d as u8 }
+    char::from_digit(d, 16).unwrap().to_ascii_uppercase()
 }
 
-fn put_hex4(out: &mut [u8], at: usize, x: u32) -> usize
-    requires { at + 4 ≤ length out.old }
-    ensures { (result ≡ at + 4) × (out.new ≡ laid out.old at (hex4_of x)) }
+fn push_digit<const N: usize>(text: &mut ArrayString<N>, d: u32)
+    requires room { length text.old.bytes + 1 ≤ N }
+    requires below { d < 16 }
+    ensures { text.new.bytes ≡ text.old.bytes ++ digit_of d ∷ [] }
 {
-    out[at] = digit(x / 4096 % 16);
-    out[at + 1] = digit(x / 256 % 16);
-    out[at + 2] = digit(x / 16 % 16);
-    out[at + 3] = digit(x % 16);
-    at + 4
+    text.push(digit(d));
+}
+
+fn push_hex4<const N: usize>(text: &mut ArrayString<N>, x: u32)
+    requires { length text.old.bytes + 4 ≤ N }
+    ensures { text.new.bytes ≡ text.old.bytes ++ hex4_of x }
+{
+    push_digit(text, x / 4096 % 16);
+    push_digit(text, x / 256 % 16);
+    push_digit(text, x / 16 % 16);
+    push_digit(text, x % 16);
 }
 
 // x as eight hexadecimal digits, in capitals.
-pub fn put_hex8(out: &mut [u8], at: usize, x: u32) -> usize
-    requires { at + 8 ≤ length out.old }
-    ensures { (result ≡ at + 8) × (out.new ≡ laid out.old at (hex8_of x)) }
+pub fn push_hex8<const N: usize>(text: &mut ArrayString<N>, x: u32)
+    requires { length text.old.bytes + 8 ≤ N }
+    ensures { text.new.bytes ≡ text.old.bytes ++ hex8_of x }
 {
-    let to = put_hex4(out, at, x / 65536);
-    put_hex4(out, to, x % 65536)
+    push_hex4(text, x / 65536);
+    push_hex4(text, x % 65536);
 }
 
 // A field's text.
-fn put_value(out: &mut [u8], at: usize, kind: u8, x: u64) -> usize
-    requires { at + 20 ≤ length out.old }
-    ensures { LaidTo out.old at (field_of kind x) result out.new }
+#[tactic(auto, unfolding(crate::specs::Line::field_of))]
+fn push_field<const N: usize>(text: &mut ArrayString<N>, field: Field)
+    requires { length text.old.bytes + 20 ≤ N }
+    ensures { text.new.bytes ≡ text.old.bytes ++ field_of field }
 {
-    if kind == 1 {
-        return put_hex8(out, at, (x % 0x1_0000_0000) as u32);
+    match field {
+        Field::Decimal(n) => push_decimal(text, n),
+        Field::Hex(x) => push_hex8(text, x),
     }
-    put_decimal(out, at, x)
 }
 
-// A field and the byte that stands after it.
-fn put_field(out: &mut [u8], at: usize, kind: u8, x: u64, end: u8) -> usize
-    requires { at + 21 ≤ length out.old }
-    ensures { LaidTo out.old at (field_then kind x end) result out.new }
-{
-    let to = put_value(out, at, kind, x);
-    let last = [end];
-    put(out, to, &last)
-}
-
-fn end_of(k: usize, n: usize) -> u8
+// What stands after field k of n.
+fn end_of(k: usize, n: usize) -> &'static str
     requires { k < n }
-    ensures { result ≡ end_of n k }
+    ensures { result.now ≡ end_of n k ∷ [] }
 {
-    if k + 1 == n { 10 } else { 32 }
+    if k + 1 == n { "\n" } else { " " }
 }
 
-// The line of the fields with these kinds and values.
-pub fn put_line(out: &mut [u8], at: usize, kinds: &[u8], values: &[u64]) -> usize
-    requires { (length kinds.now ≡ length values.now) × (at + 21 * length values.now ≤ length out.old) }
-    ensures { LaidTo out.old at (line_of kinds.now values.now) result out.new }
+// The line of these fields.
+pub fn push_line<const N: usize>(text: &mut ArrayString<N>, fields: &[Field])
+    requires { length text.old.bytes + 21 * length fields.now ≤ N }
+    ensures { text.new.bytes ≡ text.old.bytes ++ line_of fields.now }
 {
-    let n = values.len();
-    let mut to = at;
-    let mut k = 0;
-    while k < n {
-        to = put_field(out, to, kinds[k], values[k], end_of(k, n));
-        k += 1;
+    for (k, field) in fields.iter().enumerate() {
+        push_field(text, *field);
+        text.push_str(end_of(k, fields.len()));
     }
-    to
 }
 
-// A header and the line under it, from the front on: answers how long both are.
-pub fn put_report(out: &mut [u8], header: &[u8], kinds: &[u8], values: &[u64]) -> usize
-    requires { (length kinds.now ≡ length values.now)
-        × (length header.now + 21 * length values.now ≤ length out.old) }
-    ensures { Fronted out.old (under header.now kinds.now values.now)
-        result out.new }
+// A header and the line under it.
+pub fn report<const N: usize>(header: &str, fields: &[Field]) -> ArrayString<N>
+    requires { length header.now + 21 * length fields.now ≤ N }
+    ensures { result.bytes ≡ under header.now fields.now }
 {
-    let to = put(out, 0, header);
-    put_line(out, to, kinds, values)
+    let mut text = ArrayString::new();
+    text.push_str(header);
+    push_line(&mut text, fields);
+    text
+}
+
+// Lays a text over lent bytes from the front on, and answers how long it is. Bytes beyond stay.
+pub fn front(out: &mut [u8], text: &str) -> usize
+    requires { length text.now ≤ length out.old }
+    ensures { Fronted out.old text.now result out.new }
+{
+    let n = text.len();
+    out[..n].copy_from_slice(text.as_bytes());
+    n
 }

@@ -1,4 +1,5 @@
 pub mod Constants
 pub mod Refusals
+pub mod Bytes
 pub mod Edges
 pub mod Loading

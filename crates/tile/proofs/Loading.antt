@@ -3,7 +3,9 @@ use mathlib.Core.Path.{◌≡◌, refl, sym, ap, ◌∙◌, subst}
 use mathlib.Core.List.{List, [], ◌∷◌, ◌++◌, append-nil}
 use Prim.Native.Nat.{ℕ, zero, suc, ◌+◌, ◌*◌, ◌-◌, ◌/◌, ◌%◌, ◌≤◌, ◌<◌}
 use native.Mathlib.Omega.{arith}
-use borrow.Author.Tests.{eq-eqb, ne_eqb}
+use borrow.Author.Tests.{ne_eqb}
+use lib.Dec.{eqb}
+use mathlib.Core.Bool.{Bool, true, false, ◌||◌}
 use lib.ListN.{length, get_or, replicate, drop_of_length-le}
 use lib.IntN.{ℤ, pos, negsuc, suc_ℤ, nat_abs, ◌+ℤ◌, ◌-ℤ◌, suc_ℤ-+ℤ, +ℤ_idl}
 use lib.Ieee.{Float, binary32, of_bits}
@@ -17,7 +19,14 @@ use Rattle.ieee.specs.Numbers.{f32_of}
 use Rattle.levels.proofs.Constants.{zero_is}
 use Rattle.disk.specs.Rows.{in_rows}
 use Rattle.tile.specs.Tile.{tile}
-use Rattle.tile.specs.Picked.{picked, run}
+
+-- a sample of each of 17 pixels
+abbrev pub row_from : (ℕ → ℕ) → List Float
+row_from f = from (λ i. f32_of (f i)) 0 17
+
+-- the pixel in column i of the row that begins at `start`
+abbrev pub picked : List ℕ → ℕ → List ℕ → ℕ → ℕ
+picked l start columns i = get_or l (start + get_or columns i 0) 0
 
 from_same : {A : Type 0} (f g : ℕ → A) (k n : ℕ) → ((i : ℕ) → i < k + n → f i ≡ g i) → from f k n ≡ from g k n
 from_same f g k zero h = refl
@@ -98,32 +107,34 @@ near_run c o most e i h =
 
 -- row j as it is laid
 abbrev pub row_of : List ℕ → ℕ → List ℕ → List ℕ → ℕ → List Float
-row_of l w columns rows j = from (picked l (get_or rows j 0 * w) columns) 0 17
+row_of l w columns rows j = row_from (picked l (get_or rows j 0 * w) columns)
 
 pub row_laid : (l : List ℕ) (w : ℕ) (columns rows : List ℕ) (samples₀ : List Float) {samples samples' : List Float} {j : ℕ} → length samples₀ ≡ 289 → Rows (row_of l w columns rows) samples₀ 17 (j * 17) j samples → j < 17
     → samples' ≡ laid samples (j * 17) (row_of l w columns rows j) → Rows (row_of l w columns rows) samples₀ 17 ((j + 1) * 17) (j + 1) samples'
 row_laid l w columns rows samples₀ {samples} {samples'} {j} q r h e =
     subst (λ (n : ℕ). Rows (row_of l w columns rows) samples₀ 17 n (j + 1) samples') (go j)
-    (rows_put r h (length_from (picked l (get_or rows j 0 * w) columns) 0 17) (omega arith) e)
+    (rows_put r h (length_from (λ i. f32_of (picked l (get_or rows j 0 * w) columns i)) 0 17) (omega arith) e)
   where
     go : (j : ℕ) → j * 17 + 17 ≡ (j + 1) * 17
     go j = omega arith
 
+or_true : (b : Bool) → (b || true) ≡ true
+or_true true = refl
+or_true false = refl
+
+no_side : (w h : ℕ) → w * h ≡ 0 → (eqb w 0 || eqb h 0) ≡ true
+no_side zero h z = refl
+no_side (suc w) zero z = or_true (eqb (suc w) 0)
+no_side (suc w) (suc h) z = absurd (omega arith)
+
 module _ (l : List ℕ) (w h : ℕ) (origin centre : List ℤ) where
   -- an image without a pixel gives zeros
-  none : (y x : ℕ) → w ≡ 0 → tile l w h origin centre y x ≡ f32_of 0
+  none : (y x : ℕ) → (eqb w 0 || eqb h 0) ≡ true → tile l w h origin centre y x ≡ f32_of 0
   unfolding pixel
-  none y x e = rw (eq-eqb w 0 e) refl
+  none y x e = rw e refl
 
-  none_2 : (y x : ℕ) → (w ≡ 0 → ⊥) → h ≡ 0 → tile l w h origin centre y x ≡ f32_of 0
-  unfolding pixel
-  none_2 y x p e = rw (ne_eqb w 0 p, eq-eqb h 0 e) refl
-
-  pub no_columns : w ≡ 0 → replicate 289 (of_bits binary32 0) ≡ in_rows (tile l w h origin centre) 289
-  no_columns e = zeros (λ k. tile l w h origin centre (k / 17) (k % 17)) 0 289 (λ k. none (k / 17) (k % 17) e)
-
-  pub no_rows : (w ≡ 0 → ⊥) → h ≡ 0 → replicate 289 (of_bits binary32 0) ≡ in_rows (tile l w h origin centre) 289
-  no_rows p e = zeros (λ k. tile l w h origin centre (k / 17) (k % 17)) 0 289 (λ k. none_2 (k / 17) (k % 17) p e)
+  pub no_pixel : w * h ≡ 0 → replicate 289 (of_bits binary32 0) ≡ in_rows (tile l w h origin centre) 289
+  no_pixel z = zeros (λ k. tile l w h origin centre (k / 17) (k % 17)) 0 289 (λ k. none (k / 17) (k % 17) (no_side w h z))
 
   module _ (columns rows : List ℕ) (cs : columns ≡ from (near (get_or centre 0 (pos 0)) (get_or origin 0 (pos 0)) (w - 1)) 0 17) (rs : rows ≡ from (near (get_or centre 1 (pos 0)) (get_or origin 1 (pos 0)) (h - 1)) 0 17) (p : w ≡ 0 → ⊥) (q : h ≡ 0 → ⊥) where
     abbrev row : ℕ → ℕ
@@ -151,15 +162,15 @@ module _ (l : List ℕ) (w h : ℕ) (origin centre : List ℤ) where
         ∙ ap (λ (n : ℕ). n + i) (sym (column_is 0 (omega arith)))
 
     -- columns that follow one another are a run of pixels
-    pub run_is : get_or columns 16 0 ≡ get_or columns 0 0 + 16 → (j : ℕ) → from (run l (get_or rows j 0 * w + get_or columns 0 0)) 0 17 ≡ row_of l w columns rows j
+    pub run_is : get_or columns 16 0 ≡ get_or columns 0 0 + 16 → (j : ℕ) → row_from (λ i. get_or l (get_or rows j 0 * w + get_or columns 0 0 + i) 0) ≡ row_of l w columns rows j
     run_is e j =
-        from_same (run l (get_or rows j 0 * w + get_or columns 0 0)) (picked l (get_or rows j 0 * w) columns) 0 17
+        from_same (λ i. f32_of (get_or l (get_or rows j 0 * w + get_or columns 0 0 + i) 0)) (λ i. f32_of (picked l (get_or rows j 0 * w) columns i)) 0 17
         (λ i b. ap (λ (n : ℕ). f32_of (get_or l n 0)) (go (get_or rows j 0 * w) (get_or columns 0 0) i (column_run e i b)))
       where
         go : (a f i : ℕ) {c : ℕ} → c ≡ f + i → a + f + i ≡ a + c
         go a f i e = omega arith
 
-    picked_is : (j i : ℕ) → j < 17 → i < 17 → picked l (get_or rows j 0 * w) columns i ≡ tile l w h origin centre j i
+    picked_is : (j i : ℕ) → j < 17 → i < 17 → f32_of (picked l (get_or rows j 0 * w) columns i) ≡ tile l w h origin centre j i
     unfolding pixel
     picked_is j i a b =
         rw (ne_eqb w 0 p, ne_eqb h 0 q) (λ t. f32_of (get_or l (row_is j a t * w + column_is i b t) 0))
@@ -168,5 +179,5 @@ module _ (l : List ℕ) (w h : ℕ) (origin centre : List ℤ) where
         → samples ≡ in_rows (tile l w h origin centre) 289
     tile_is {samples₀} {samples} {j} e r g =
         rows_end r g ∙ ap (λ (m : List Float). joined (row_of l w columns rows) 0 17 ++ m) (drop_of_length-le samples₀ {i = j * 17} (omega arith)) ∙ append-nil (joined (row_of l w columns rows) 0 17)
-        ∙ square (λ y x. picked l (get_or rows y 0 * w) columns x)
-        ∙ from_same (λ k. picked l (get_or rows (k / 17) 0 * w) columns (k % 17)) (λ k. tile l w h origin centre (k / 17) (k % 17)) 0 289 (λ k a. picked_is (k / 17) (k % 17) (omega arith) (omega arith))
+        ∙ square (λ y x. f32_of (picked l (get_or rows y 0 * w) columns x))
+        ∙ from_same (λ k. f32_of (picked l (get_or rows (k / 17) 0 * w) columns (k % 17))) (λ k. tile l w h origin centre (k / 17) (k % 17)) 0 289 (λ k a. picked_is (k / 17) (k % 17) (omega arith) (omega arith))

@@ -5,6 +5,7 @@ use Rattle.std.specs.Float.Ieee.{of_bits, of_int, round, sub, mul, div}
 use Rattle.laws.specs.Lists.{from}
 use Rattle.ieee.specs.Numbers.{f32_of}
 use Rattle.ieee.specs.Sqrt.{sqrt}
+use Rattle.numbers.specs.Numbers.{number_in}
 use Rattle.imageview.specs.Sample.{clamped, pixel}
 use Rattle.tile.specs.Refusal.{refusal}
 use Rattle.tile.specs.Tile.{tile}
@@ -43,9 +44,10 @@ unfolding pixel clamped
 moved = (refl, refl)
 
 -- a side too large before a length, both before a far place
-pub first : (refusal 7 20000 0 zeros (pos 1000001 ∷ pos 0 ∷ []) ≡ 1)
-    × (refusal 7 2 3 zeros (pos 1000001 ∷ pos 0 ∷ []) ≡ 2)
-    × (refusal 6 2 3 zeros (pos 1000001 ∷ pos 0 ∷ []) ≡ 8)
-    × (refusal 6 2 3 (pos 0 ∷ negsuc 1000000 ∷ []) zeros ≡ 8) × (refusal 6 2 3 zeros zeros ≡ 0)
+pub first : (number_in (refusal 7 20000 0 zeros (pos 1000001 ∷ pos 0 ∷ [])) ≡ 1)
+    × (number_in (refusal 7 2 3 zeros (pos 1000001 ∷ pos 0 ∷ [])) ≡ 2)
+    × (number_in (refusal 6 2 3 zeros (pos 1000001 ∷ pos 0 ∷ [])) ≡ 8)
+    × (number_in (refusal 6 2 3 (pos 0 ∷ negsuc 1000000 ∷ []) zeros) ≡ 8)
+    × (number_in (refusal 6 2 3 zeros zeros) ≡ 0)
 unfolding refusal
 first = (refl, refl, refl, refl, refl)

@@ -1,17 +1,15 @@
 -- The width of the edges on a smoothed square, and the answer of a tile: a width or document 01's number.
-use Rattle.std.specs.Prelude.{ℕ, ◌^◌, false, cond, eqb, Float}
+use Rattle.std.specs.Prelude.{ℕ, ◌^◌, cond, false, Float}
 use Rattle.std.specs.Float.{binary32}
 use Rattle.std.specs.Float.Ieee.{sub, mul, div, lt, round}
 use Rattle.ieee.specs.Numbers.{f32_of}
 use Rattle.ieee.specs.Sqrt.{sqrt}
 use Rattle.levels.specs.Levels.{high_level, low_level}
 use Rattle.steepness.specs.Steepness.{steepness}
-use Rattle.disk.specs.Rows.{read}
-use Rattle.disk.specs.Smoothing.{smoothed}
 use Rattle.disk.specs.Gradients.{values, gradients}
 use Rattle.tile.specs.declared.EdgeWidth.{EdgeWidth}
 use Rattle.tile.specs.declared.EdgeWidth.TheVariants.{Width, Refused}
-use Rattle.tile.specs.declared.PixelTile.{PixelTile}
+use Rattle.numbers.specs.declared.Number.TheVariants.{Flat}
 
 -- the source's constant, 3.14159265358979323846264338327950288 as an f32, and the root of twice it
 abbrev pub pi : Float
@@ -24,13 +22,9 @@ root_two_pi = sqrt binary32 (mul binary32 (f32_of 2) pi)
 abbrev pub edge_width_of : Float → Float → Float → Float
 edge_width_of high low g = div binary32 (sub binary32 high low) (mul binary32 root_two_pi g)
 
--- 9 where the gradient mean is zero
+-- flat, 9, where the gradient mean is zero
 abbrev pub edge_of : (ℕ → ℕ → Float) → EdgeWidth
 edge_of s =
     cond (lt (f32_of 0) (steepness (gradients s)))
     (Width (edge_width_of (high_level (values s)) (low_level (values s)) (steepness (gradients s))))
-    (Refused 9)
-
--- of a tile that is refused, the number
-unfoldable pub edge_of_tile : PixelTile → EdgeWidth
-edge_of_tile t = cond (eqb t.refused 0) (edge_of (smoothed (read t.samples))) (Refused t.refused)
+    (Refused Flat)

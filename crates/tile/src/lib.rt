@@ -1,45 +1,48 @@
 // The tile of pixels about a corner and the width of the edges on it: uncertainty.rs, `PixelTile`.
 #![tactic(auto)]
 
-ghost use Rattle.std.specs.Prelude.{◌≡◌, ℕ, ◌+◌, ◌≤◌, ◌<◌, length, get_or, pos, nat_abs, ◌+ℤ◌, ◌-ℤ◌};
+ghost use Rattle.std.specs.Prelude.{◌≡◌, ℕ, ◌+◌, ◌≤◌, ◌<◌, length, pos, nat_abs, ◌+ℤ◌, ◌-ℤ◌};
+ghost use Rattle.std.specs.Result.{result_map_both};
+ghost use Rattle.ieee.specs.Numbers.{f32_of};
 ghost use Rattle.laws.specs.Lists.{from, laid};
 ghost use Rattle.imageview.specs.Sample.{clamped};
+ghost use Rattle.disk.specs.Rows.{read};
+ghost use Rattle.disk.specs.Smoothing.{smoothed};
 ghost use Rattle.tile.specs.Refusal.{refusal};
 ghost use Rattle.tile.specs.Tile.{ByteSamples, loaded};
-ghost use Rattle.tile.specs.Picked.{picked, run};
-ghost use Rattle.tile.specs.Width.{root_two_pi, edge_of_tile};
+ghost use Rattle.tile.specs.Width.{edge_of};
 
 use imageview::ImageView;
+use numbers::Number;
 
-// A width, or document 01's number.
-#[derive(Drop)]
+// The root of twice pi.
+const ROOT_TWO_PI: f32 = 2.5066283;
+
+// A width, or why there is none.
+#[derive(Clone, Copy)]
 pub enum EdgeWidth {
     Width(f32),
-    Refused(u32),
+    Refused(Number),
 }
 
-// 17 rows of 17 samples, or the number of what forbids them; 0 for none.
+// 17 rows of 17 samples, each a byte.
 #[derive(Drop)]
 pub struct PixelTile {
-    pub refused: u32,
     pub samples: [f32; 289],
+    pub ghost bytes: { ByteSamples samples },
 }
 
-// The first of 1, 2, 8 that applies, else 0.
-fn judge(pixels: usize, width: usize, height: usize, origin: [i32; 2], centre: [i32; 2]) -> u32
-    ensures { result ≡ refusal pixels width height origin centre }
+// Why there is no tile of a view about the centre, where there is none.
+#[tactic(auto, using(crate::proofs::Refusals::image_refused), unfolding(crate::specs::Refusal::refusal))]
+fn judge(img: ImageView, centre: [i32; 2]) -> Result<(), Number>
+    ensures { result ≡
+        refusal (length img.entry.pixels.now) img.entry.width img.entry.height img.entry.origin centre }
 {
-    let number = limits::judge(pixels, width, height);
-    if number != 0 {
-        return number;
+    limits::judge(img.pixels.len(), img.width, img.height)?;
+    if limits::far_place(centre) || limits::far_place(img.origin) {
+        return Err(Number::Far);
     }
-    if limits::far_place(centre) {
-        return 8;
-    }
-    if limits::far_place(origin) {
-        return 8;
-    }
-    0
+    Ok(())
 }
 
 // Place i of a row or a column about c.
@@ -55,116 +58,70 @@ fn nearby(c: i32, o: i32, most: usize) -> [usize; 17]
     requires { nat_abs c ≤ 1000000 }
     ensures { result ≡ from (λ i. clamped ((c +ℤ (pos i -ℤ pos 8)) +ℤ o) most) 0 17 }
 {
-    let mut out = [0usize; 17];
-    let mut i = 0;
-    while i < 17 {
+    let mut out = [0; 17];
+    for i in 0..17 {
         out[i] = imageview::place(near(c, i), o, most);
-        i += 1;
     }
     out
 }
 
-// The pixels in these columns of the row that begins at `start`, as the samples from place `to` on.
-fn lay(samples: &mut [f32; 289], to: usize, pixels: &[u8], start: usize, columns: &[usize; 17])
-    requires { (length samples.old ≡ 289) × (to + 17 ≤ 289)
-        × ((i : ℕ) → i < 17 → start + get_or columns.now i 0 < length pixels.now) }
-    ensures { samples.new ≡ laid samples.old to
-        (from (picked pixels.now start columns.now) 0 17) }
+// 17 pixels as the samples from place `to` on.
+fn lay<F: Fn(usize) -> u8>(samples: &mut [f32; 289], to: usize, pixel: F)
+    requires room { to + 17 ≤ 289 }
+    requires callable { (i : ℕ) → i < 17 → F.pre pixel i }
+    ensures bytes { ByteSamples samples.old → ByteSamples samples.new }
+    ensures row { (f : ℕ → ℕ) → ((i r : ℕ) → i < 17 → F.post pixel i r → r ≡ f i)
+        → samples.new ≡ laid samples.old to (from (λ i. f32_of (f i)) 0 17) }
 {
-    let mut k = 0;
-    while k < 17 {
-        samples[to + k] = pixels[start + columns[k]] as f32;
-        k += 1;
+    for k in 0..17 {
+        samples[to + k] = f32::from(pixel(k));
     }
-}
-
-// The 17 pixels from place `start` on, as the samples from place `to` on.
-fn lay_run(samples: &mut [f32; 289], to: usize, pixels: &[u8], start: usize)
-    requires { (length samples.old ≡ 289) × (to + 17 ≤ 289) × (start + 17 ≤ length pixels.now) }
-    ensures { samples.new ≡ laid samples.old to (from (run pixels.now start) 0 17) }
-{
-    let mut n = 0;
-    while n < 17 {
-        samples[to + n] = pixels[start + n] as f32;
-        n += 1;
-    }
-}
-
-// The root of twice pi.
-fn root_two_pi() -> f32
-    ensures { result ≡ root_two_pi }
-{
-    2.5066283
 }
 
 impl PixelTile {
-    // The samples of a view about the centre, or a number.
-    pub fn load(img: ImageView, centre: [i32; 2]) -> Self
-        ensures { (result ≡
-            loaded img.entry.pixels.now img.entry.width img.entry.height img.entry.origin centre)
-            × ByteSamples result.samples }
+    // The samples of a view about the centre.
+    #[tactic(auto, unfolding(crate::specs::Tile::loaded))]
+    pub fn load(img: ImageView, centre: [i32; 2]) -> Result<PixelTile, Number>
+        ensures { result_map_both (λ (t : PixelTile). t.samples) (λ why. why) result ≡
+            loaded img.entry.pixels.now img.entry.width img.entry.height img.entry.origin centre }
     {
-        Self::load_at(img.pixels, img.width, img.height, img.origin, centre)
-    }
-
-    // The same on the slice and numbers.
-    fn load_at(
-        pixels: &[u8],
-        width: usize,
-        height: usize,
-        origin: [i32; 2],
-        centre: [i32; 2],
-    ) -> Self
-        ensures { (result ≡ loaded pixels.now width height origin centre) × ByteSamples result.samples }
-    {
-        let mut samples = [0.0f32; 289];
-        let refused = judge(pixels.len(), width, height, origin, centre);
-        if refused != 0 {
-            return Self { refused, samples };
+        judge(img, centre)?;
+        let mut samples = [0.0; 289];
+        if img.pixels.is_empty() {
+            return Ok(PixelTile { samples });
         }
-        if width == 0 {
-            return Self { refused, samples };
-        }
-        if height == 0 {
-            return Self { refused, samples };
-        }
-        let columns = nearby(centre[0], origin[0], width - 1);
-        let rows = nearby(centre[1], origin[1], height - 1);
+        let columns = nearby(centre[0], img.origin[0], img.width - 1);
+        let rows = nearby(centre[1], img.origin[1], img.height - 1);
         let first = columns[0];
         let last = columns[16];
-        let mut j = 0;
-        while j < 17 {
-            let start = rows[j] * width;
+        for j in 0..17 {
+            let start = rows[j] * img.width;
             if last == first + 16 {
-                lay_run(&mut samples, j * 17, pixels, start + first);
+                let at = start + first;
+                lay(&mut samples, j * 17, |k| img.pixels[at + k]);
             } else {
-                lay(&mut samples, j * 17, pixels, start, &columns);
+                lay(&mut samples, j * 17, |k| img.pixels[start + columns[k]]);
             }
-            j += 1;
         }
-        Self { refused, samples }
+        Ok(PixelTile { samples })
     }
 
-    // The width of the edges on the tile's disk, or a number.
+    // The width of the edges on the tile's disk.
     pub fn edge_width(self) -> EdgeWidth
-        requires { ByteSamples self.samples }
-        ensures { result ≡ edge_of_tile self }
+        ensures { result ≡ edge_of (smoothed (read self.samples)) }
     {
-        let refused = self.refused;
-        if refused != 0 {
-            return EdgeWidth::Refused(refused);
-        }
-        let mut rows = [0.0f32; 221];
+        let mut rows = [0.0; 221];
         disk::down(&self.samples, &mut rows);
-        let mut smooth = [0.0f32; 217];
+        let mut smooth = [0.0; 217];
         disk::across(&rows, &mut smooth);
-        let mut on_disk = [0.0f32; 81];
-        disk::gradients(&smooth, &mut on_disk);
-        let g = steepness::steepness(&on_disk);
+        let mut gradients = [0.0; 81];
+        disk::gradients(&smooth, &mut gradients);
+        let g = steepness::steepness(&gradients);
         if g > 0.0 {
-            let v = disk::values(&smooth);
-            return EdgeWidth::Width(levels::contrast(&v) / (root_two_pi() * g));
+            let values = disk::values(&smooth);
+            EdgeWidth::Width(levels::contrast(&values) / (ROOT_TWO_PI * g))
+        } else {
+            EdgeWidth::Refused(Number::Flat)
         }
-        EdgeWidth::Refused(9)
     }
 }

@@ -12,15 +12,18 @@ use borrow.Author.Tests.{lt-ltb, le-ltb}
 use Rattle.grid.specs.Needed.{needed_of}
 use Rattle.answer.specs.declared.Answer.{Answer}
 use Rattle.answer.specs.Fields.{answer_bytes}
-use Rattle.noise.specs.declared.Verdict.{Verdict}
+use Rattle.std.specs.Prelude.{Result, Ok, Err}
+use Rattle.numbers.specs.declared.Number.{Number}
+use Rattle.numbers.specs.Numbers.{number_of, number_in}
 use Rattle.noise.specs.Refusals.{short_of, refusal_of}
 use Rattle.noise.specs.Call.{refused, measured, cleared_ints, cleared_floats, left_ints, left_floats}
 use Rattle.noise.specs.Steps.{verdict_of}
-use Rattle.noise.proofs.Causes.{same_cause, only_cause}
+use Rattle.noise.proofs.Causes.{same_cause, only_cause, some_number}
 use Rattle.noise.proofs.Leaving.{number_is, windows_is, noise_refused, noise_measured, all_stays, all_changes}
 use Rattle.vuzgari.specs.Noise.{noise_for, left_bytes}
 
-module _ (img : List ℕ) (w h : ℕ) (ints : List ℤ) (floats : List Float) (out : List ℕ) (v : Verdict) (is : v ≡ verdict_of (length img) w h (length ints) (length floats)) where
+module _ (img : List ℕ) (w h : ℕ) (ints : List ℤ) (floats : List Float) (out : List ℕ) (v : Result ℕ Number)
+    (is : v ≡ verdict_of (length img) w h (length ints) (length floats)) where
   abbrev short : Bool
   short = short_of w h (length ints) (length floats)
 
@@ -31,7 +34,7 @@ module _ (img : List ℕ) (w h : ℕ) (ints : List ℤ) (floats : List Float) (o
   abbrev number : ℕ
   number = refusal_of (length img) w h shorter
 
-  refusal_is : v.number ≡ refusal_of (length img) w h short
+  refusal_is : number_in v ≡ refusal_of (length img) w h short
   refusal_is = number_is img w h ints floats v is
 
   -- the four parts of the contract
@@ -54,21 +57,26 @@ module _ (img : List ℕ) (w h : ℕ) (ints : List ℤ) (floats : List Float) (o
       (all_stays img w h shorter (refused k) (cleared_floats (needed_of w h) floats) floats same no)
       (all_stays img w h shorter (refused k) (answer_bytes (refused k) ++ drop 40 out) out same no)
 
-  pub refused_all : (v.number ≡ 0 → ⊥) → Parts v.number ints floats out
-  refused_all n = stays v.number (same_cause (length img) w h short (ltb (length out) 40) (λ z. n (refusal_is ∙ z)) ∙ sym refusal_is) n
+  pub refused_all : (why : Number) → v ≡ Err why → Parts (number_of why) ints floats out
+  refused_all why e =
+      let is = sym (ap (λ (x : Result ℕ Number). number_in x) e) ∙ refusal_is in
+      stays (number_of why) (same_cause (length img) w h short (ltb (length out) 40) (λ z. some_number why (is ∙ z)) ∙ sym is) (some_number why)
 
-  module _ (z : v.number ≡ 0) where
+  module _ (m : ℕ) (e : v ≡ Ok m) where
+    none : refusal_of (length img) w h short ≡ 0
+    none = sym refusal_is ∙ ap (λ (x : Result ℕ Number). number_in x) e
+
     left : number ≡ cond (ltb (length out) 40) 4 0
-    left = only_cause (length img) w h short (ltb (length out) 40) (sym refusal_is ∙ z)
+    left = only_cause (length img) w h short (ltb (length out) 40) none
 
     pub too_short : length out < 40 → Parts 4 ints floats out
-    too_short s = stays 4 (left ∙ ap (λ (b : Bool). cond b 4 0) (lt-ltb (length out) 40 s)) (λ e. omega arith)
+    too_short s = stays 4 (left ∙ ap (λ (b : Bool). cond b 4 0) (lt-ltb (length out) 40 s)) (λ z. omega arith)
 
-    pub written : 40 ≤ length out → (a : Answer) {i : List ℤ} {f : List Float} {o : List ℕ} → a ≡ measured img w h → i ≡ cleared_ints v.windows ints
-        → f ≡ cleared_floats v.windows floats → o ≡ answer_bytes a ++ drop 40 out → Parts a.number i f o
+    pub written : 40 ≤ length out → (a : Answer) {i : List ℤ} {f : List Float} {o : List ℕ} → a ≡ measured img w h → i ≡ cleared_ints m ints
+        → f ≡ cleared_floats m floats → o ≡ answer_bytes a ++ drop 40 out → Parts a.number i f o
     written s a p q r t =
-        let m = windows_is img w h ints floats v is z in
+        let needed = windows_is img w h ints floats v is m e in
         parts a (noise_measured img w h shorter (left ∙ ap (λ (b : Bool). cond b 4 0) (le-ltb (length out) 40 s)) ∙ sym p)
-        (q ∙ ap (λ (n : ℕ). cleared_ints n ints) m ∙ all_changes img w h shorter a (cleared_ints (needed_of w h) ints) ints p)
-        (r ∙ ap (λ (n : ℕ). cleared_floats n floats) m ∙ all_changes img w h shorter a (cleared_floats (needed_of w h) floats) floats p)
+        (q ∙ ap (λ (n : ℕ). cleared_ints n ints) needed ∙ all_changes img w h shorter a (cleared_ints (needed_of w h) ints) ints p)
+        (r ∙ ap (λ (n : ℕ). cleared_floats n floats) needed ∙ all_changes img w h shorter a (cleared_floats (needed_of w h) floats) floats p)
         (t ∙ all_changes img w h shorter a (answer_bytes a ++ drop 40 out) out p)

@@ -11,8 +11,11 @@ use lib.Ieee.{Float, binary32, fits, of_bits, sub, mul}
 use lib.Ieee.Bits.{to_bits-lt, of_bits-to_bits}
 use lib.Ieee.Fits.{div-fits}
 use Rattle.limits.specs.Limits.{too_large, too_small}
-use Rattle.grid.specs.Needed.{needed_of, sizing_of, size_number}
-use Rattle.grid.specs.declared.Size.TheVariants.{Windows, SideAbove, SideBelow}
+use Rattle.std.specs.Prelude.{Ok, Err}
+use Rattle.numbers.specs.declared.Number.{Number}
+use Rattle.numbers.specs.declared.Number.TheVariants.{SideAbove, SideBelow}
+use Rattle.numbers.specs.Numbers.{number_of, number_in}
+use Rattle.grid.specs.Needed.{needed_of, sizing_of}
 use Rattle.grid.proofs.Memory.{sides_taken}
 use Rattle.noise.proofs.Causes.{needed_most}
 use Rattle.tile.specs.declared.EdgeWidth.{EdgeWidth}
@@ -25,11 +28,11 @@ use Rattle.vuzgari.specs.Codes.{size_code, width_code}
 
 -- ---- the edge call
 
-pub number_code : (n : ℕ) → 4294967296 ≤ width_code (Refused n)
-number_code n = omega arith
+pub number_code : (why : Number) → 4294967296 ≤ width_code (Refused why)
+number_code why = omega arith
 
-pub number_back : (n : ℕ) → width_code (Refused n) - 4294967296 ≡ n
-number_back n = omega arith
+pub number_back : (why : Number) → width_code (Refused why) - 4294967296 ≡ number_of why
+number_back why = omega arith
 
 module _ (l : List ℕ) (w h : ℕ) (origin centre : List ℤ) where
   -- a width is a quotient rounded to an f32
@@ -46,13 +49,13 @@ module _ (l : List ℕ) (w h : ℕ) (origin centre : List ℤ) where
 
 -- ---- the sizing call
 
-pub size_code_lem : (w h : ℕ) → (size_code (sizing_of w h) < 4294967296) ↔ (size_number (sizing_of w h) ≡ 0)
+pub size_code_lem : (w h : ℕ) → (size_code (sizing_of w h) < 4294967296) ↔ (number_in (sizing_of w h) ≡ 0)
 unfolding sizing_of
 size_code_lem w h = by_case (too_large w h) (too_small w h) refl refl
   where
     by_case : (a b : Bool) → too_large w h ≡ a → too_small w h ≡ b
-        → (size_code (cond a SideAbove (cond b SideBelow (Windows (needed_of w h)))) < 4294967296)
-        ↔ (size_number (cond a SideAbove (cond b SideBelow (Windows (needed_of w h)))) ≡ 0)
+        → (size_code (cond a (Err SideAbove) (cond b (Err SideBelow) (Ok (needed_of w h)))) < 4294967296)
+        ↔ (number_in (cond a (Err SideAbove) (cond b (Err SideBelow) (Ok (needed_of w h)))) ≡ 0)
     by_case true b p q = (λ e. absurd (omega arith), λ e. absurd (omega arith))
     by_case false true p q = (λ e. absurd (omega arith), λ e. absurd (omega arith))
     by_case false false p q = (λ _. refl, λ _. omega (arith, needed_most w h ((sides_taken w h).1 (p, q))))

@@ -6,12 +6,14 @@ use Prim.Native.Nat.{ℕ, ◌-◌, ◌≤◌, ◌<◌}
 use native.Mathlib.Omega.{arith}
 use lib.ListN.{length, take}
 use lib.Seq.{take_all}
+use Rattle.std.specs.Prelude.{Option, Some, None, Result, Ok, Err}
 use Rattle.ieee.proofs.Naturals.{le_or_lt}
 use Rattle.pgm.specs.declared.Head.{Head}
-use Rattle.pgm.specs.declared.Head.TheVariants.{Numbers, Missing}
-use Rattle.pgm.specs.declared.Pgm.{Pgm}
-use Rattle.pgm.specs.declared.Pgm.TheVariants.{Image, Refused}
-use Rattle.pgm.specs.Read.{head_of, header_bytes, front_read, read_of}
+use Rattle.pgm.specs.declared.Image.{Image}
+use Rattle.pgm.specs.Read.{header_at, head_of, header_bytes, image_at, front_read, read_of}
+use Rattle.numbers.specs.declared.Number.{Number}
+use Rattle.numbers.specs.declared.Number.TheVariants.{PgmHeader, PgmMaximum, PgmRaster}
+use Rattle.numbers.specs.Numbers.{number_of, apart}
 use Rattle.pgm.proofs.Heads.{missing_none, head_read, head_missing, head_front}
 use Rattle.pgm.proofs.Judging.{as_whole}
 use Rattle.pgm.proofs.Laws.{is_20, is_21, is_22, no_other, is_image_lem, front_decides}
@@ -32,8 +34,8 @@ module _ (front fields : List ℕ) where
         given = λ k w h m raster s. absurd (omega arith);
       }
 
-  by_head : 4 ≤ length fields → (H : Head) → head_of front ≡ H → HeaderAtC front fields (header_shown fields H)
-  by_head l Missing e =
+  by_head : 4 ≤ length fields → (H : Option Head) → head_of front ≡ H → HeaderAtC front fields (header_shown fields H)
+  by_head l None e =
       record {
         only = inr (inr refl);
         four = (λ e. absurd (omega arith), λ p. absurd (omega arith));
@@ -41,18 +43,18 @@ module _ (front fields : List ℕ) where
         stays = λ _. refl;
         given = λ k w h m raster s. absurd ((head_missing front).0 e w h m raster s);
       }
-  by_head l (Numbers w h m s) e =
+  by_head l (Some head) e =
       record {
         only = inl refl;
         four = (λ e. absurd (omega arith), λ p. absurd (omega arith));
         missing = (λ e. absurd (omega arith), λ p. missing_none (sym ((head_missing front).1 p.1) ∙ e));
         stays = λ n. absurd (n refl);
-        given = λ k w' h' m' raster t. same w' h' m' (length front - length raster) (ap (header_shown fields) (sym e ∙ head_read t));
+        given = λ k w h m raster t. same (header_at w h m (length front - length raster)) (ap (header_shown fields) (sym e ∙ head_read t));
       }
     where
-      same : (w' h' m' s' : ℕ) → header_shown fields (Numbers w h m s) ≡ header_shown fields (Numbers w' h' m' s')
-          → ((header_shown fields (Numbers w h m s)).number ≡ 0) × ((header_shown fields (Numbers w h m s)).fields ≡ (header_shown fields (Numbers w' h' m' s')).fields)
-      same w' h' m' s' e = (refl, ap (λ x. x.fields) e)
+      same : (H : Option Head) → header_shown fields (Some head) ≡ header_shown fields H
+          → ((header_shown fields (Some head)).number ≡ 0) × ((header_shown fields (Some head)).fields ≡ (header_shown fields H).fields)
+      same H e = (refl, ap (λ x. x.fields) e)
 
   pub header_meets_at_c : HeaderMeetsAtC front fields
   header_meets_at_c = elim (le_or_lt 4 (length fields)) [
@@ -68,37 +70,45 @@ header_of_file file fields n enough = rw (head_front file n enough) refl
 -- ---- the judgement
 
 -- a refusal's number is its own, and an image's is 0
-own : (p : Pgm) (k : ℕ) → (k ≡ 0 → ⊥) → (number_for p ≡ k) ↔ (p ≡ Refused k)
-own p k h = (λ e. by p e, λ e. ap number_for e)
+own : (r : Result Image Number) (why : Number) → (number_of why ≡ 0 → ⊥) → (number_for r ≡ number_of why) ↔ (r ≡ Err why)
+own r why h = (λ e. by r e, λ e. ap number_for e)
   where
-    by : (p : Pgm) → number_for p ≡ k → p ≡ Refused k
-    by (Image w h' s) e = absurd (h (sym e))
-    by (Refused n) e = ap Refused e
+    by : (r : Result Image Number) → number_for r ≡ number_of why → r ≡ Err why
+    by (Ok image) e = absurd (h (sym e))
+    by (Err other) e = ap Err (apart other why e)
 
 pub through : {A B C : Type 0} → A ↔ B → B ↔ C → A ↔ C
 through f g = (λ a. g.0 (f.0 a), λ c. f.1 (g.1 c))
 
 module _ (file : List ℕ) where
-  number_0 : (p : Pgm) → p ≡ read_of file → number_for p ≡ 0 → (w : ℕ) × (h : ℕ) × (start : ℕ) × (read_of file ≡ Image w h start)
-  number_0 (Image w h s) e z = (w, h, s, sym e)
-  number_0 (Refused n) e z = absurd (some (no_other file n (sym e)))
+  number_0 : (r : Result Image Number) → r ≡ read_of file → number_for r ≡ 0
+      → (w : ℕ) × (h : ℕ) × (start : ℕ) × (read_of file ≡ image_at w h start)
+  number_0 (Ok image) e z = (image.width, image.height, image.start, sym e)
+  number_0 (Err why) e z = absurd (some (no_other file why (sym e)))
     where
-      some : (n ≡ 20) ⊎ ((n ≡ 21) ⊎ (n ≡ 22)) → ⊥
-      some (inl a) = omega arith
-      some (inr (inl a)) = omega arith
-      some (inr (inr a)) = omega arith
+      some : (why ≡ PgmHeader) ⊎ ((why ≡ PgmMaximum) ⊎ (why ≡ PgmRaster)) → ⊥
+      some (inl a) = omega (arith, ap number_of a)
+      some (inr (inl a)) = omega (arith, ap number_of a)
+      some (inr (inr a)) = omega (arith, ap number_of a)
 
-  all : (p : Pgm) → p ≡ read_of file → (number_for p ≡ 0) ⊎ (number_for p ≡ 20) ⊎ (number_for p ≡ 21) ⊎ (number_for p ≡ 22)
-  all (Image w h s) e = inl refl
-  all (Refused n) e = inr (no_other file n (sym e))
+  all : (r : Result Image Number) → r ≡ read_of file
+      → (number_for r ≡ 0) ⊎ (number_for r ≡ 20) ⊎ (number_for r ≡ 21) ⊎ (number_for r ≡ 22)
+  all (Ok image) e = inl refl
+  all (Err why) e = inr (numbers (no_other file why (sym e)))
+    where
+      numbers : (why ≡ PgmHeader) ⊎ ((why ≡ PgmMaximum) ⊎ (why ≡ PgmRaster))
+          → (number_of why ≡ 20) ⊎ ((number_of why ≡ 21) ⊎ (number_of why ≡ 22))
+      numbers (inl a) = inl (ap number_of a)
+      numbers (inr (inl a)) = inr (inl (ap number_of a))
+      numbers (inr (inr a)) = inr (inr (ap number_of a))
 
   whole_judged : JudgeAtC file (number_for (read_of file))
   whole_judged =
       record {
         only = all (read_of file) refl;
-        header = through (own (read_of file) 20 (λ z. omega arith)) (is_20 file);
-        maximum = through (own (read_of file) 21 (λ z. omega arith)) (is_21 file);
-        raster = through (own (read_of file) 22 (λ z. omega arith)) (is_22 file);
+        header = through (own (read_of file) PgmHeader (λ z. omega (arith, z))) (is_20 file);
+        maximum = through (own (read_of file) PgmMaximum (λ z. omega (arith, z))) (is_21 file);
+        raster = through (own (read_of file) PgmRaster (λ z. omega (arith, z))) (is_22 file);
         image = (
           λ e. let i = number_0 (read_of file) refl e in (i.0, i.1, i.2, (is_image_lem file i.0 i.1 i.2).0 i.3),
           λ (w, h, s, f). ap number_for ((is_image_lem file w h s).1 f),
@@ -107,6 +117,6 @@ module _ (file : List ℕ) where
 
   -- by as many first bytes as the longest header has, or by all
   pub judge_meets_at_c : (n : ℕ) → (header_bytes ≤ n) ⊎ (length file ≤ n) → JudgeMeetsAtC file n
-  judge_meets_at_c n (inl enough) = subst (λ (p : Pgm). JudgeAtC file (number_for p)) (sym (front_decides file n enough)) whole_judged
+  judge_meets_at_c n (inl enough) = subst (λ (r : Result Image Number). JudgeAtC file (number_for r)) (sym (front_decides file n enough)) whole_judged
   judge_meets_at_c n (inr all) =
-      subst (λ (p : Pgm). JudgeAtC file (number_for p)) (sym (as_whole file (ap (λ (l : List ℕ). front_read l (length file)) (take_all n file all)))) whole_judged
+      subst (λ (r : Result Image Number). JudgeAtC file (number_for r)) (sym (as_whole file (ap (λ (l : List ℕ). front_read l (length file)) (take_all n file all)))) whole_judged

@@ -11,7 +11,6 @@ use lib.Ieee.{Float}
 use Rattle.answer.specs.declared.Answer.{Answer}
 use Rattle.answer.specs.Fields.{answer_bytes}
 use Rattle.answer.specs.Examples.{forty}
-use Rattle.record.specs.declared.Reading.{Reading}
 use Rattle.record.specs.Rule.{AnswerStored}
 use Rattle.record.specs.Records.{form_nf, Written, written_as, read_as}
 use Rattle.logging.specs.Logging.{record_from}
@@ -52,7 +51,7 @@ module _ (shot w h : ℕ) (a : Answer) (before : List ℕ) (k : Recorded shot w 
         changes = λ out l. bytes_left out ∙ k.changes rest out l;
         reads = λ out fields n l m.
             from_10 (written_for shot w h (left_bytes before a) out).bytes fields m
-            ∙ ap (λ (x : Reading). shown_in fields x)
+            ∙ ap (λ x. shown_in fields x)
             (ap (λ (y : List ℕ). read_as form_nf y) (bytes_left out) ∙ k.reads rest out n l);
       }
 

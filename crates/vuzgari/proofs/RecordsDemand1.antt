@@ -7,8 +7,9 @@ use native.Mathlib.Omega.{arith}
 use lib.ListN.{length}
 use Rattle.ieee.proofs.Naturals.{le_or_lt}
 use Rattle.record.specs.declared.Record.{Record}
-use Rattle.record.specs.declared.Reading.{Reading}
-use Rattle.record.specs.declared.Reading.TheVariants.{Given, Refused}
+use Rattle.std.specs.Prelude.{Result, Ok, Err}
+use Rattle.numbers.specs.declared.Number.{Number}
+use Rattle.numbers.specs.declared.Number.TheVariants.{OtherMark, ShortRecord, BrokenRule}
 use Rattle.record.specs.Records.{form_nf, Written, written_as, record_in, read_as}
 use Rattle.record.specs.Demand1.{WriteMeets, ReadMeets}
 use Rattle.record.proofs.Demand1.{write_meets, read_meets}
@@ -78,43 +79,43 @@ module _ (bytes fields : List ℕ) where
         changes = λ e. absurd (omega arith);
       }
 
-  module _ (l : 10 ≤ length fields) (x : Reading) (m : ReadMeets form_nf bytes x) where
+  module _ (l : 10 ≤ length fields) (x : Result Record Number) (m : ReadMeets form_nf bytes x) where
     abbrev number : ℕ
     number = (shown_in fields x).number
 
     abbrev found : Record
     found = record_in form_nf bytes
 
-    shows : {y : Reading} → x ≡ y → shown_in fields x ≡ shown_in fields y
+    shows : {y : Result Record Number} → x ≡ y → shown_in fields x ≡ shown_in fields y
     shows e = ap (shown_in fields) e
 
-    numbers : {y : Reading} → x ≡ y → number ≡ (shown_in fields y).number
+    numbers : {y : Result Record Number} → x ≡ y → number ≡ (shown_in fields y).number
     numbers e = ap (λ (s : Shown). s.number) (shows e)
 
     -- one of four
-    by_case : {Q : Type 0} → (number ≡ 0 → x ≡ Given found → Q) → (number ≡ 17 → x ≡ Refused 17 → Q)
-        → (number ≡ 18 → x ≡ Refused 18 → Q) → (number ≡ 19 → x ≡ Refused 19 → Q) → Q
+    by_case : {Q : Type 0} → (number ≡ 0 → x ≡ Ok found → Q) → (number ≡ 17 → x ≡ Err OtherMark → Q)
+        → (number ≡ 18 → x ≡ Err ShortRecord → Q) → (number ≡ 19 → x ≡ Err BrokenRule → Q) → Q
     by_case {Q} a b c d = go m.only
       where
-        go : (x ≡ Given found) ⊎ (x ≡ Refused 17) ⊎ (x ≡ Refused 18) ⊎ (x ≡ Refused 19) → Q
+        go : (x ≡ Ok found) ⊎ (x ≡ Err OtherMark) ⊎ (x ≡ Err ShortRecord) ⊎ (x ≡ Err BrokenRule) → Q
         go (inl e) = a (numbers e) e
         go (inr (inl e)) = b (numbers e) e
         go (inr (inr (inl e))) = c (numbers e) e
         go (inr (inr (inr e))) = d (numbers e) e
 
-    is_given : number ≡ 0 → x ≡ Given found
+    is_given : number ≡ 0 → x ≡ Ok found
     is_given z = by_case (λ _ e. e) (λ n _. absurd (omega arith)) (λ n _. absurd (omega arith)) (λ n _. absurd (omega arith))
 
-    is_17 : number ≡ 17 → x ≡ Refused 17
+    is_17 : number ≡ 17 → x ≡ Err OtherMark
     is_17 z = by_case (λ n _. absurd (omega arith)) (λ _ e. e) (λ n _. absurd (omega arith)) (λ n _. absurd (omega arith))
 
-    is_18 : number ≡ 18 → x ≡ Refused 18
+    is_18 : number ≡ 18 → x ≡ Err ShortRecord
     is_18 z = by_case (λ n _. absurd (omega arith)) (λ n _. absurd (omega arith)) (λ _ e. e) (λ n _. absurd (omega arith))
 
-    is_19 : number ≡ 19 → x ≡ Refused 19
+    is_19 : number ≡ 19 → x ≡ Err BrokenRule
     is_19 z = by_case (λ n _. absurd (omega arith)) (λ n _. absurd (omega arith)) (λ n _. absurd (omega arith)) (λ _ e. e)
 
-    refuses : {n : ℕ} → x ≡ Refused n → (shown_in fields x).fields ≡ fields
+    refuses : {why : Number} → x ≡ Err why → (shown_in fields x).fields ≡ fields
     refuses e = ap (λ (s : Shown). s.fields) (shows e)
 
     by_reader : ReadAtC bytes fields (shown_in fields x)

@@ -1,11 +1,11 @@
 -- What C gets: numbers past 4,294,967,296, 4 for a short answer slice, the answer's bytes before what stood beyond them, and a
 -- record written from an answer slice and read into fields; a grey file's header and judgement.
-use Rattle.std.specs.Prelude.{◌≡◌, refl, List, [], ◌∷◌, ◌++◌, ℕ, replicate}
+use Rattle.std.specs.Prelude.{◌≡◌, refl, List, [], ◌∷◌, ◌++◌, ℕ, replicate, Ok, Err}
 use Rattle.little_endian.specs.Bytes.{bytes_of, value_of}
 use Rattle.grid.specs.Step.{step_of}
 use Rattle.grid.specs.Grid.{places_of}
 use Rattle.grid.specs.Needed.{needed_of}
-use Rattle.grid.specs.declared.Size.TheVariants.{Windows, SideAbove, SideBelow}
+use Rattle.numbers.specs.declared.Number.TheVariants.{SideAbove, SideBelow, Few, ShortSlice, Far, Flat}
 use Rattle.tile.specs.declared.EdgeWidth.TheVariants.{Refused}
 use Rattle.answer.specs.Fields.{answer_bytes}
 use Rattle.noise.specs.Refusals.{refusal_of}
@@ -19,10 +19,10 @@ use Rattle.vuzgari.specs.Noise.{short_for, left_bytes}
 use Rattle.vuzgari.specs.Records.{written_for, read_for}
 use Rattle.vuzgari.specs.Grey.{header_in, number_for}
 
-pub sizes : (size_code (Windows 9174) ≡ 9174) × (size_code SideAbove ≡ 4294967297) × (size_code SideBelow ≡ 4294967299)
+pub sizes : (size_code (Ok 9174) ≡ 9174) × (size_code (Err SideAbove) ≡ 4294967297) × (size_code (Err SideBelow) ≡ 4294967299)
 sizes = (refl, refl, refl)
 
-pub refusals : (width_code (Refused 8) ≡ 4294967304) × (width_code (Refused 9) ≡ 4294967305)
+pub refusals : (width_code (Refused Far) ≡ 4294967304) × (width_code (Refused Flat) ≡ 4294967305)
 refusals = (refl, refl)
 
 -- one window needs 3 i32 and 4 f32: 39 bytes are too short for the answer, 40 are not

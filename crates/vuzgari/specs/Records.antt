@@ -1,7 +1,8 @@
 -- The record calls as C makes them: the number, and what each leaves in the slice that it may change.
-use Rattle.std.specs.Prelude.{cond, List, ◌++◌, ℕ, ltb, length, drop}
-use Rattle.record.specs.declared.Reading.{Reading}
-use Rattle.record.specs.declared.Reading.TheVariants.{Given, Refused}
+use Rattle.std.specs.Prelude.{cond, List, ◌++◌, ℕ, ltb, length, drop, Result, Ok, Err}
+use Rattle.numbers.specs.declared.Number.{Number}
+use Rattle.numbers.specs.Numbers.{number_of}
+use Rattle.record.specs.declared.Record.{Record}
 use Rattle.record.specs.Records.{form_nf, fields_of, Written, written_as, read_as}
 use Rattle.logging.specs.Logging.{record_from}
 
@@ -16,9 +17,9 @@ pub record Shown : Type 0 where
   pub fields : List ℕ
 
 -- a record's ten fields and those beyond as they were, or a number and all as it was
-abbrev pub shown_in : List ℕ → Reading → Shown
-shown_in fields (Given r) = record { number = 0; fields = fields_of r ++ drop 10 fields }
-shown_in fields (Refused n) = record { number = n; fields = fields }
+abbrev pub shown_in : List ℕ → Result Record Number → Shown
+shown_in fields (Ok r) = record { number = 0; fields = fields_of r ++ drop 10 fields }
+shown_in fields (Err why) = record { number = number_of why; fields = fields }
 
 -- 4 where under ten fields are lent; else what the bytes hold
 unfoldable pub read_for : List ℕ → List ℕ → Shown

@@ -5,26 +5,57 @@ ghost use Rattle.std.specs.Prelude.{◌≡◌, [], ◌∷◌, ◌++◌, ◌≤�
 ghost use Rattle.grid.specs.Needed.{sizing_of};
 ghost use Rattle.edge.specs.Edge.{edge};
 ghost use Rattle.noise.specs.Call.{left_ints, left_floats};
-ghost use Rattle.vuzgari.specs.Codes.{size_code, width_code};
-ghost use Rattle.vuzgari.specs.Noise.{noise_for, left_bytes};
+ghost use Rattle.numbers.specs.Numbers.{number_of, number_in};
+ghost use Rattle.vuzgari.specs.Codes.{code_of, size_code, width_code};
+ghost use Rattle.vuzgari.specs.Noise.{told, noise_for, left_bytes};
 ghost use Rattle.vuzgari.specs.Records.{written_for, read_for};
 ghost use Rattle.vuzgari.specs.Grey.{header_in, number_for};
 ghost use Rattle.pgm.specs.Read.{front_read};
 
-use pgm::{Head, Pgm};
-use record::Reading;
+use numbers::Number;
+use pgm::Head;
 use tile::EdgeWidth;
+
+// A reason's number, past every figure of 32 bits.
+fn code_of(why: Number) -> u64
+    ensures { result ≡ code_of (number_of why) }
+{
+    4_294_967_296 + u64::from(u32::from(why))
+}
 
 // M for an image of w by h, or 4,294,967,296 plus the number of a refusal. The noise call needs 3M i32 and 2M + 2 f32.
 pub fn vuzgari_noise_windows(w: usize, h: usize) -> u64
     ensures { result ≡ size_code (sizing_of w h) }
 {
-    let size = grid::sizing(w, h);
-    match size {
-        grid::Size::Windows(m) => m as u64,
-        grid::Size::SideAbove => 4_294_967_297,
-        grid::Size::SideBelow => 4_294_967_299,
+    match grid::sizing(w, h) {
+        Ok(m) => m as u64,
+        Err(why) => code_of(why),
     }
+}
+
+// The noise call's number, the answer in the first 40 bytes of `out`; or why it is refused.
+fn measure(
+    pixels: &[u8],
+    w: usize,
+    h: usize,
+    ints: &mut [i32],
+    floats: &mut [f32],
+    out: &mut [u8],
+) -> Result<u32, Number>
+    ensures { (told result ≡ (noise_for pixels.now w h ints.old floats.old out.old).number)
+        × (ints.new ≡ left_ints (told result) w h ints.old)
+        × (floats.new ≡ left_floats (told result) w h floats.old)
+        × (out.new ≡ left_bytes out.old
+        (noise_for pixels.now w h ints.old floats.old out.old)) }
+{
+    let m = noise::judge(pixels.len(), w, h, ints.len(), floats.len())?;
+    if out.len() < 40 {
+        return Err(Number::ShortSlice);
+    }
+    let a = noise::measure(pixels, w, h, ints, floats, m);
+    let number = a.number;
+    answer::put(out, a);
+    Ok(number)
 }
 
 // The noise call: its number, and after 0, 5, 6 or 7 the answer in the first 40 bytes of `out`.
@@ -42,19 +73,10 @@ pub fn vuzgari_noise(
         × (out.new ≡ left_bytes out.old
         (noise_for pixels.now w h ints.old floats.old out.old)) }
 {
-    let verdict = noise::judge(pixels.len(), w, h, ints.len(), floats.len());
-    let cause = verdict.number;
-    let m = verdict.windows;
-    if cause != 0 {
-        return cause;
+    match measure(pixels, w, h, ints, floats, out) {
+        Ok(number) => number,
+        Err(why) => u32::from(why),
     }
-    if out.len() < 40 {
-        return 4;
-    }
-    let a = noise::measure(pixels, w, h, ints, floats, m);
-    let number = a.number;
-    answer::put(out, a);
-    number
 }
 
 // A width by its bits, or a number past them.
@@ -62,8 +84,8 @@ fn width_code(e: EdgeWidth) -> u64
     ensures { result ≡ width_code e }
 {
     match e {
-        EdgeWidth::Width(x) => laws::wide(float::bits32(x)),
-        EdgeWidth::Refused(n) => 4_294_967_296 + laws::wide(n),
+        EdgeWidth::Width(x) => u64::from(float::bits32(x)),
+        EdgeWidth::Refused(why) => code_of(why),
     }
 }
 
@@ -82,17 +104,25 @@ pub fn vuzgari_edge_width(
     width_code(edge::view_edge_width(pixels, width, height, [ox, oy], [cx, cy]))
 }
 
+#[tactic(auto, unfolding(crate::specs::Records::written_for))]
+fn write(shot: u32, w: usize, h: usize, answer: &[u8], out: &mut [u8]) -> Result<(), Number>
+    ensures { (number_in result ≡ (written_for shot w h answer.now out.old).number)
+        × (out.new ≡ (written_for shot w h answer.now out.old).bytes) }
+{
+    if answer.len() < 40 {
+        return Err(Number::ShortSlice);
+    }
+    let r = logging::record_from(shot, w, h, answer);
+    record::write(r, out)
+}
+
 // Writes the record of a shot from the image's sides and the answer slice as the noise call left it: 4 where that has under 40
 // bytes, then 19, then 18. A refused call changes nothing; bytes past 35 stay.
 pub fn vuzgari_record_write(shot: u32, w: usize, h: usize, answer: &[u8], out: &mut [u8]) -> u32
     ensures { (result ≡ (written_for shot w h answer.now out.old).number)
         × (out.new ≡ (written_for shot w h answer.now out.old).bytes) }
 {
-    if answer.len() < 40 {
-        return 4;
-    }
-    let r = logging::record_from(shot, w, h, answer);
-    record::write(r, out)
+    numbers::number_in(write(shot, w, h, answer, out))
 }
 
 // Numbers from the front on. Those beyond stay.
@@ -100,12 +130,20 @@ fn show_fields(fields: &mut [u64], xs: &[u64])
     requires { length xs.now ≤ length fields.old }
     ensures { fields.new ≡ xs.now ++ drop (length xs.now) fields.old }
 {
-    let mut k = 0;
-    while k < xs.len() {
-        let x = xs[k];
-        fields[k] = x;
-        k += 1;
+    fields[..xs.len()].copy_from_slice(xs);
+}
+
+#[tactic(auto, unfolding(crate::specs::Records::read_for))]
+fn read(bytes: &[u8], fields: &mut [u64]) -> Result<(), Number>
+    ensures { (number_in result ≡ (read_for bytes.now fields.old).number)
+        × (fields.new ≡ (read_for bytes.now fields.old).fields) }
+{
+    if fields.len() < 10 {
+        return Err(Number::ShortSlice);
     }
+    let r = record::read(bytes)?;
+    show_fields(fields, &r.fields());
+    Ok(())
 }
 
 // Reads the record at the front of `bytes` into ten fields: 4 where fewer are lent, then 18, 17, 19. A refused call changes
@@ -114,17 +152,29 @@ pub fn vuzgari_record_read(bytes: &[u8], fields: &mut [u64]) -> u32
     ensures { (result ≡ (read_for bytes.now fields.old).number)
         × (fields.new ≡ (read_for bytes.now fields.old).fields) }
 {
-    if fields.len() < 10 {
-        return 4;
+    numbers::number_in(read(bytes, fields))
+}
+
+#[tactic(auto, unfolding(crate::specs::Grey::header_in))]
+fn header(front: &[u8], fields: &mut [u64]) -> Result<(), Number>
+    ensures { (number_in result ≡ (header_in front.now fields.old).number)
+        × (fields.new ≡ (header_in front.now fields.old).fields) }
+{
+    if fields.len() < 4 {
+        return Err(Number::ShortSlice);
     }
-    match record::read(bytes) {
-        Reading::Given(r) => {
-            let xs = record::fields(r);
-            show_fields(fields, &xs);
-            0
-        }
-        Reading::Refused(n) => n,
-    }
+    let Some(head) = pgm::header(front) else {
+        return Err(Number::PgmHeader);
+    };
+    let Head {
+        width: w,
+        height: h,
+        maximum: m,
+        start,
+    } = head;
+    let xs = [w as u64, h as u64, m as u64, start as u64];
+    show_fields(fields, &xs);
+    Ok(())
 }
 
 // Reads the header of a grey file from its first bytes into four fields: 4 where fewer are lent, then 20. A refused call changes
@@ -133,25 +183,12 @@ pub fn vuzgari_pgm_header(front: &[u8], fields: &mut [u64]) -> u32
     ensures { (result ≡ (header_in front.now fields.old).number)
         × (fields.new ≡ (header_in front.now fields.old).fields) }
 {
-    if fields.len() < 4 {
-        return 4;
-    }
-    match pgm::header(front) {
-        Head::Numbers(w, h, m, start) => {
-            let xs = [w as u64, h as u64, m as u64, start as u64];
-            show_fields(fields, &xs);
-            0
-        }
-        Head::Missing => 20,
-    }
+    numbers::number_in(header(front, fields))
 }
 
 // Judges a grey file of `len` bytes by its first bytes: 20, 21, 22, or 0 where it holds an image.
 pub fn vuzgari_pgm_judge(front: &[u8], len: usize) -> u32
     ensures { result ≡ number_for (front_read front.now len) }
 {
-    match pgm::read_front(front, len) {
-        Pgm::Image(_, _, _) => 0,
-        Pgm::Refused(n) => n,
-    }
+    numbers::number_in(pgm::read_front(front, len))
 }

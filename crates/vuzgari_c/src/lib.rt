@@ -1,4 +1,5 @@
-// The C calls of vuzgari: each calls its namesake there, under its clauses.
+// The C calls of vuzgari: each calls its namesake there, under its clauses. They stand twice since a crate is a library or a
+// static library.
 #![tactic(auto)]
 
 ghost use Rattle.std.specs.Prelude.{◌≡◌, [], ◌∷◌};

@@ -14,7 +14,7 @@ use Rattle.laws.proofs.Ring.{Ex, v, k, ◌⊕◌, ◌⊖◌, ◌⊗◌, eval, ri
 use Rattle.laws.proofs.Each.{each²_at}
 use Rattle.laws.proofs.Machine.{bnd, under, held, held_of, held_small}
 use Rattle.window.specs.Window.{Pixel, Pixels, component, gate_terms, gate, of_rows}
-use Rattle.window_stats.specs.Passes.{Small, poly4_of, poly4_column, transposed, poly4_down, cross, middle, weigh_of}
+use Rattle.window_stats.specs.Passes.{Small, poly4_of, poly4_column, transposed, poly4_down, cross, middle, part, weigh_of, Weighable}
 use Rattle.window.specs.declared.WindowStats.{WindowStats}
 use Rattle.window.proofs.Places.{◌and◌, below4²}
 use Rattle.window.proofs.Expressions.{numbers, at, component_e, sq_e, weighted_e}
@@ -75,10 +75,6 @@ passed_e i j = poly_e i (down 0) (down 1) (down 2) (down 3)
 abbrev pub passes : List (List ℤ) → List (List ℤ)
 passes m = poly4_down (transposed (poly4_down m))
 
--- row i, place j
-abbrev pub of : List (List ℤ) → ℕ → ℕ → ℤ
-of c i j = held (of_rows c j i)
-
 module _ (m : List (List ℤ)) where
   made : (i j : ℕ) → T (same (passed_e i j) (component_e at i j)) → eval (numbers (of_rows m)) (passed_e i j) ≡ component (of_rows m) i j
   made i j t = ring (numbers (of_rows m)) (passed_e i j) (component_e at i j) t
@@ -95,10 +91,10 @@ weigh_e c =
     k cross ⊗ (sq_e (c 1 2) ⊕ sq_e (c 2 1) ⊕ sq_e (c 2 3) ⊕ sq_e (c 3 2) ⊕ sq_e (c 3 0) ⊕ sq_e (c 0 3)) ⊕ k middle ⊗ sq_e (c 2 2)
     ⊕ sq_e (c 1 3) ⊕ sq_e (c 3 1)
 
-weigh_same : {a0 a1 a2 a3 a4 a5 a6 a7 a8 b0 b1 b2 b3 b4 b5 b6 b7 b8 : ℤ}
-    → a0 ≡ b0 → a1 ≡ b1 → a2 ≡ b2 → a3 ≡ b3 → a4 ≡ b4 → a5 ≡ b5 → a6 ≡ b6 → a7 ≡ b7 → a8 ≡ b8
-    → weigh_of a0 a1 a2 a3 a4 a5 a6 a7 a8 ≡ weigh_of b0 b1 b2 b3 b4 b5 b6 b7 b8
-weigh_same p0 p1 p2 p3 p4 p5 p6 p7 p8 = rw (p0, p1, p2, p3, p4, p5, p6, p7, p8)
+weigh_same : (c d : ℕ → ℕ → ℤ) → ((i j : ℕ) → i < 4 → j < 4 → c i j ≡ d i j) → weigh_of c ≡ weigh_of d
+weigh_same c d e =
+    let is : (i j : ℕ) → T (ltb i 4) → T (ltb j 4) → c i j ≡ d i j = λ i j s t. e i j (lit< s) (lit< t) in
+    rw (is 1 2 tt tt, is 2 1 tt tt, is 2 3 tt tt, is 3 2 tt tt, is 3 0 tt tt, is 0 3 tt tt, is 2 2 tt tt, is 1 3 tt tt, is 3 1 tt tt)
 
 pub figures : {a b c a' b' c' : ℤ} → a ≡ a' → b ≡ b' → c ≡ c'
     → ◌≡◌ {A = WindowStats} (record { sum = a; gate = b; op = c }) (record { sum = a'; gate = b'; op = c' })
@@ -112,37 +108,40 @@ module _ (m c : List (List ℤ)) (e : Pixels (of_rows m)) (r : c ≡ passes m) w
   most_fits : (i j : ℕ) → most i j ≤ 8160
   most_fits i j = cond_both (λ (n : ℕ). n ≤ 8160) (eqb (i % 2) 1 && eqb (j % 2) 1) 8160 4080 (lit≤ tt) (lit≤ tt)
 
-  of_is : (i j : ℕ) → i < 4 → j < 4 → of c i j ≡ q i j
-  of_is i j s t =
-      ap held (ap (λ (l : List (List ℤ)). of_rows l j i) r ∙ passes_components m i j s t)
-      ∙ held_small (q i j) 8160 (le_trans (component_within (of_rows m) e i j s t) (most_fits i j)) tt
+  part_is : (i j : ℕ) → i < 4 → j < 4 → part c i j ≡ q i j
+  part_is i j s t = ap (λ (l : List (List ℤ)). part l i j) r ∙ passes_components m i j s t
 
-  pub of_small : (i j n : ℕ) → T (ltb i 4) → T (ltb j 4) → T (leb (most i j) n) → Small n (of c i j)
-  of_small i j n s t b =
+  small : (i j n : ℕ) → T (ltb i 4) → T (ltb j 4) → T (leb (most i j) n) → Small n (part c i j)
+  small i j n s t b =
       record {
         small =
-            subst (λ (z : ℤ). nat_abs z ≤ n) (sym (of_is i j (lit< s) (lit< t)))
+            subst (λ (z : ℤ). nat_abs z ≤ n) (sym (part_is i j (lit< s) (lit< t)))
             (le_trans (component_within (of_rows m) e i j (lit< s) (lit< t)) (lit≤ b));
       }
 
-  abbrev weighed : ℤ
-  weighed = weigh_of (of c 1 2) (of c 2 1) (of c 2 3) (of c 3 2) (of c 3 0) (of c 0 3) (of c 2 2) (of c 1 3) (of c 3 1)
+  -- each component is as small as `weigh` wants it, whichever it is
+  pub weighable : Weighable (part c)
+  weighable =
+      record {
+        most4080 =
+            small 1 2 4080 tt tt tt and small 2 1 4080 tt tt tt and small 2 3 4080 tt tt tt and small 3 2 4080 tt tt tt
+            and small 3 0 4080 tt tt tt and small 0 3 4080 tt tt tt and small 2 2 4080 tt tt tt and tt;
+        most8160 = small 1 3 8160 tt tt tt and small 3 1 8160 tt tt tt and tt;
+      }
 
-  is : (i j : ℕ) → T (ltb i 4) → T (ltb j 4) → of c i j ≡ q i j
-  is i j s t = of_is i j (lit< s) (lit< t)
+  -- as the machine reads it back
+  held_part : (i j : ℕ) → T (ltb i 4) → T (ltb j 4) → held (part c i j) ≡ q i j
+  held_part i j s t =
+      ap held (part_is i j (lit< s) (lit< t))
+      ∙ held_small (q i j) 8160 (le_trans (component_within (of_rows m) e i j (lit< s) (lit< t)) (most_fits i j)) tt
 
-  weighed_is : weighed ≡ gate (of_rows m)
+  pub sum_is : held (part c 0 0) ≡ q 0 0
+  sum_is = held_part 0 0 tt tt
+
+  pub gate_is : (g : ℤ) → mag g < 2147483648 → g ≡ weigh_of (part c) → held g ≡ gate (of_rows m)
   unfolding gate
-  weighed_is =
-      weigh_same (is 1 2 tt tt) (is 2 1 tt tt) (is 2 3 tt tt) (is 3 2 tt tt) (is 3 0 tt tt) (is 0 3 tt tt) (is 2 2 tt tt) (is 1 3 tt tt)
-      (is 3 1 tt tt)
-      ∙ ring (numbers q) (weigh_e at) (weighted_e gate_terms at) tt
+  gate_is g f h =
+      held_of {z = g} f ∙ h ∙ weigh_same (part c) q part_is ∙ ring (numbers q) (weigh_e at) (weighted_e gate_terms at) tt
 
-  pub sum_is : of c 0 0 ≡ q 0 0
-  sum_is = is 0 0 tt tt
-
-  pub gate_is : (g : ℤ) → mag g < 2147483648 → g ≡ weighed → held g ≡ gate (of_rows m)
-  gate_is g f h = held_of {z = g} f ∙ h ∙ weighed_is
-
-  pub output_is : of c 3 3 ≡ q 3 3
-  output_is = is 3 3 tt tt
+  pub output_is : held (part c 3 3) ≡ q 3 3
+  output_is = held_part 3 3 tt tt

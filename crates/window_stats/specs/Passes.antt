@@ -1,5 +1,6 @@
 -- Only for the steps of the code: the four polynomials down and across, the weighted squares. They come to window's `stats_of`.
 use Rattle.std.specs.Prelude.{List, [], ◌∷◌, ℕ, ◌≤◌, ℤ, pos, nat_abs, ◌+ℤ◌, ◌-ℤ◌, ◌*ℤ◌}
+use Rattle.laws.specs.Lists.{Each}
 use Rattle.window.specs.Window.{sq, of_rows}
 
 -- of a magnitude that the sums of the code can hold
@@ -33,6 +34,16 @@ cross = pos 5
 abbrev pub middle : ℤ
 middle = pos 25
 
-abbrev pub weigh_of : ℤ → ℤ → ℤ → ℤ → ℤ → ℤ → ℤ → ℤ → ℤ → ℤ
-weigh_of c12 c21 c23 c32 c30 c03 c22 c13 c31 =
-    cross *ℤ (sq c12 +ℤ sq c21 +ℤ sq c23 +ℤ sq c32 +ℤ sq c30 +ℤ sq c03) +ℤ middle *ℤ sq c22 +ℤ sq c13 +ℤ sq c31
+-- row i, place j
+abbrev pub part : List (List ℤ) → ℕ → ℕ → ℤ
+part m i j = of_rows m j i
+
+abbrev pub weigh_of : (ℕ → ℕ → ℤ) → ℤ
+weigh_of c =
+    cross *ℤ (sq (c 1 2) +ℤ sq (c 2 1) +ℤ sq (c 2 3) +ℤ sq (c 3 2) +ℤ sq (c 3 0) +ℤ sq (c 0 3)) +ℤ middle *ℤ sq (c 2 2)
+    +ℤ sq (c 1 3) +ℤ sq (c 3 1)
+
+-- components whose weighted squares the sums of the code can hold
+pub record Weighable (c : ℕ → ℕ → ℤ) : Type 0 where
+  pub most4080 : Each (Small 4080) (c 1 2 ∷ c 2 1 ∷ c 2 3 ∷ c 3 2 ∷ c 3 0 ∷ c 0 3 ∷ c 2 2 ∷ [])
+  pub most8160 : Each (Small 8160) (c 1 3 ∷ c 3 1 ∷ [])

@@ -5,7 +5,8 @@ ghost use Rattle.std.specs.Prelude.{◌≡◌, [], ◌∷◌, ◌+◌, ◌*◌, 
 ghost use Rattle.laws.specs.Lists.{Each, Each²};
 ghost use Rattle.window.specs.Window.{Pixel, of_rows, pixels_at, stats_of};
 ghost use Rattle.window_stats.specs.Words.{word_at, row_in, rows_in};
-ghost use Rattle.window_stats.specs.Passes.{Small, poly4_of, poly4_column, poly4_down, column_down, transposed, weigh_of};
+ghost use Rattle.window_stats.specs.Passes.{Small, poly4_of, poly4_column, poly4_down, column_down, transposed};
+ghost use Rattle.window_stats.specs.Passes.{part, weigh_of, Weighable};
 
 use window::WindowStats;
 
@@ -26,34 +27,22 @@ pub fn word(img: &[u8], at: usize) -> u32
     requires { at + 4 ≤ length img.now }
     ensures { result ≡ word_at img.now at }
 {
-    let a = img[at] as u32;
-    let b = img[at + 1] as u32;
-    let c = img[at + 2] as u32;
-    let d = img[at + 3] as u32;
-    a + b * 256 + c * 65536 + d * 16777216
+    u32::from_le_bytes([img[at], img[at + 1], img[at + 2], img[at + 3]])
 }
 
 // The window whose rows are four such numbers.
 pub fn packed(a: u32, b: u32, c: u32, d: u32) -> WindowStats
     ensures { result ≡ stats_of (of_rows (rows_in a b c d)) }
 {
-    let r0 = row(a);
-    let r1 = row(b);
-    let r2 = row(c);
-    let r3 = row(d);
-    window_stats([r0, r1, r2, r3])
+    window_stats([row(a), row(b), row(c), row(d)])
 }
 
 // The four pixels of such a number.
 fn row(x: u32) -> [i32; 4]
     ensures { result ≡ row_in x }
 {
-    [
-        (x % 256) as i32,
-        (x / 256 % 256) as i32,
-        (x / 65536 % 256) as i32,
-        (x / 16777216) as i32,
-    ]
+    let [a, b, c, d] = x.to_le_bytes();
+    [i32::from(a), i32::from(b), i32::from(c), i32::from(d)]
 }
 
 // The window px[y][x]: the polynomials down the columns, then across. c[i][j] is component (i, j).
@@ -65,36 +54,25 @@ pub fn window_stats(px: [[i32; 4]; 4]) -> WindowStats
     let t = transpose(d);
     let c = poly4_down(t);
     let sum = c[0][0];
-    let gate = weigh(
-        c[1][2], c[2][1], c[2][3], c[3][2], c[3][0], c[0][3], c[2][2], c[1][3], c[3][1],
-    );
+    let gate = weigh(c);
     let op = c[3][3];
-    WindowStats {
-        sum: sum,
-        gate: gate,
-        op: op,
-    }
+    WindowStats { sum, gate, op }
 }
 
 // The gate's weighted squares.
-fn weigh(
-    c12: i32,
-    c21: i32,
-    c23: i32,
-    c32: i32,
-    c30: i32,
-    c03: i32,
-    c22: i32,
-    c13: i32,
-    c31: i32,
-) -> i32
-    requires { Each (Small 4080) (c12 ∷ c21 ∷ c23 ∷ c32 ∷ c30 ∷ c03 ∷ c22 ∷ []) × Each (Small 8160) (c13 ∷ c31 ∷ []) }
-    ensures { result ≡ weigh_of c12 c21 c23 c32 c30 c03 c22 c13 c31 }
+fn weigh(c: [[i32; 4]; 4]) -> i32
+    requires { Weighable (part c) }
+    ensures { result ≡ weigh_of (part c) }
 {
-    5 * (c12 * c12 + c21 * c21 + c23 * c23 + c32 * c32 + c30 * c30 + c03 * c03)
-        + 25 * (c22 * c22)
-        + c13 * c13
-        + c31 * c31
+    5 * (c[1][2] * c[1][2]
+        + c[2][1] * c[2][1]
+        + c[2][3] * c[2][3]
+        + c[3][2] * c[3][2]
+        + c[3][0] * c[3][0]
+        + c[0][3] * c[0][3])
+        + 25 * (c[2][2] * c[2][2])
+        + c[1][3] * c[1][3]
+        + c[3][1] * c[3][1]
 }
 
 // The four polynomials over four values.
@@ -123,11 +101,12 @@ fn poly4_down(m: [[i32; 4]; 4]) -> [[i32; 4]; 4]
     requires { Each² (Small 4080) m }
     ensures { result ≡ poly4_down m }
 {
-    let c0 = poly4_column(m, 0);
-    let c1 = poly4_column(m, 1);
-    let c2 = poly4_column(m, 2);
-    let c3 = poly4_column(m, 3);
-    transpose([c0, c1, c2, c3])
+    transpose([
+        poly4_column(m, 0),
+        poly4_column(m, 1),
+        poly4_column(m, 2),
+        poly4_column(m, 3),
+    ])
 }
 
 // Column x.
@@ -142,9 +121,10 @@ fn column_down(m: [[i32; 4]; 4], x: usize) -> [i32; 4]
 fn transpose(m: [[i32; 4]; 4]) -> [[i32; 4]; 4]
     ensures { result ≡ transposed m }
 {
-    let c0 = column_down(m, 0);
-    let c1 = column_down(m, 1);
-    let c2 = column_down(m, 2);
-    let c3 = column_down(m, 3);
-    [c0, c1, c2, c3]
+    [
+        column_down(m, 0),
+        column_down(m, 1),
+        column_down(m, 2),
+        column_down(m, 3),
+    ]
 }

@@ -1,5 +1,5 @@
 -- The m-th squared gradient is that of the m-th place, whose neighbours lie one and 17 places off.
-use Prim.Native.Nat.{◌-◌, ◌/◌, ◌%◌}
+use Prim.Native.Nat.{◌/◌, ◌%◌}
 use lib.ListN.{get_or}
 use Rattle.laws.proofs.Fill.{Tab}
 use Rattle.disk.specs.Rows.{read}
@@ -9,6 +9,3 @@ use Rattle.disk.proofs.gradients.Given as goal
 
 abbrev pub invariant-loop-m : goal.invariant-loop-m
 invariant-loop-m l = Tab (λ i. squared_at (read l.smooth) (get_or disk i 0 / 17) (get_or disk i 0 % 17)) 81 l.m l.out
-
-abbrev pub decreases-loop-m : goal.decreases-loop-m
-decreases-loop-m l = 81 - l.m

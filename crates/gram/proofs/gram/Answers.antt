@@ -12,5 +12,5 @@ pub returns : goal.returns
 returns c =
     c.finite.ensures
     ∙ ap judged
-    (sums_are c.args.gx.now c.args.gy.now c.requires c.partials-p.ensures c.with_rest-p0.ensures
+    (sums_are c.args.gx.now c.args.gy.now _ c.requires c.partials-p.ensures c.with_rest-p0.ensures
     c.joined-xx.ensures c.joined-xy.ensures c.joined-yy.ensures c.new.ensures)

@@ -15,4 +15,4 @@ pub returns : goal.returns
 unfolding deviation of_bits of_int round
 returns c =
     rounded c.to_f32.ensures
-    (c.sqrt64.ensures ∙ ap (λ (x : Float). sqrt binary64 (div binary64 c.args.k.sum x)) c.f64_of.ensures)
+    (c.sqrt64.ensures ∙ ap (λ (x : Float). sqrt binary64 (div binary64 c.args.k.sum x)) c.nearest_usize_to_f64.ensures)

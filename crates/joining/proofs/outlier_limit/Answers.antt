@@ -7,4 +7,4 @@ use Rattle.joining.proofs.outlier_limit.Goals as goal
 
 pub returns : goal.returns
 unfolding outlier_limit of_bits of_int round
-returns c = ap (mul binary64 max_band_outlier) c.max64.ensures
+returns c = ap (mul binary64 max_band_outlier) c.max.ensures

@@ -1,10 +1,6 @@
 -- Each turn joins the tests of one more knot. Assumes nothing.
-use Prim.Native.Nat.{◌-◌}
 use Rattle.knots.proofs.Tables.{Sound}
 use Rattle.knots.proofs.rises_in_range.Given as goal
 
 abbrev pub invariant-loop-k : goal.invariant-loop-k
-invariant-loop-k l = Sound l.widths l.gains l.residuals l.n l.k l.all l.last
-
-abbrev pub decreases-loop-k : goal.decreases-loop-k
-decreases-loop-k l = l.n - l.k
+invariant-loop-k l = Sound l.widths l.gains l.residuals l.k l.all l.last

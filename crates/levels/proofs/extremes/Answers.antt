@@ -7,4 +7,4 @@ loop-m-init c = begin _ _ c.requires.long c.number-first.ensures.0 c.number-firs
 
 pub loop-m-preserved : goal.loop-m-preserved
 loop-m-preserved c =
-    turn c.loop-m.invariant c.requires.long (omega arith) c.number-n.ensures.0 c.number-n.ensures.1 c.larger-most.ensures c.smaller-least.ensures
+    turn c.loop-m.invariant c.requires.long (omega arith) c.number-n.ensures.0 c.number-n.ensures.1 c.max-most.ensures c.min-least.ensures

@@ -1,25 +1,14 @@
--- Nothing beside a figure; else three texts one after the other.
-use native.Mathlib.Omega.{arith}
-use Rattle.lid_bytes.proofs.Remarks.{nothing, left_one, left_two, said}
+-- The name and the words after it are one text.
+use Rattle.std.proofs.Common.{ap, ◌∙◌, cond, ◌++◌, [], List, ℕ, append_assoc}
+use lib.Dec.{eqb}
+use Rattle.text.specs.Text.{as_bytes}
+use Rattle.reasons.specs.Reasons.{no_figure, numbered_of, remark_by}
+use Rattle.lid_bytes.specs.Remark.{pgm_of, remark_of}
 use Rattle.lid_bytes.proofs.remark.Goals as goal
 
-pub returns-then-number-eq0-clause-fronted : goal.returns-then-number-eq0-clause-fronted
-returns-then-number-eq0-clause-fronted c = (nothing c.args.input.now c.args.number c.args.out.now c.if-number-eq0.true).0
-
-pub put-to-requires : goal.put-to-requires
-put-to-requires c = left_one c.args.input.now c.args.number c.args.out.now c.put_pgm-at.new.out c.put_pgm-at.result c.requires c.put_pgm-at.ensures
-
-pub put_numbered-requires : goal.put_numbered-requires
-put_numbered-requires c =
-    omega (
-      arith,
-      c.put-to.ensures.0,
-      left_two c.args.input.now c.args.number c.args.out.now c.put_pgm-at.new.out c.put_pgm-at.result c.requires c.put_pgm-at.ensures
-          c.put-to.new.out c.put-to.result c.put-to.ensures,
-    )
-
-pub returns-clause-fronted : goal.returns-clause-fronted
-returns-clause-fronted c =
-    (said c.args.input.now c.args.number c.args.out.now c.put_pgm-at.new.out c.put_pgm-at.result c.requires c.put_pgm-at.ensures
-    c.put-to.new.out c.put-to.result c.put-to.ensures
-    c.put_numbered.new.out c.put_numbered.result c.if-number-eq0.false c.put_numbered.ensures).0
+pub returns : goal.returns
+unfolding remark_of remark_by
+returns c =
+    c.remark.ensures
+    ∙ ap (λ (l : List ℕ). remark_by l (as_bytes "lidnoise") c.args.number) c.pgm_line.ensures.value
+    ∙ ap (λ (l : List ℕ). cond (eqb c.args.number 0) [] (l ++ numbered_of c.args.number)) (append_assoc (pgm_of c.args.input.now) (as_bytes "lidnoise") no_figure)

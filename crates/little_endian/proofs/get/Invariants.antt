@@ -4,6 +4,3 @@ use Rattle.little_endian.proofs.get.Given as goal
 
 abbrev pub invariant-loop-k : goal.invariant-loop-k
 invariant-loop-k l = Getting l.bytes l.at l.count l.x l.k
-
-abbrev pub decreases-loop-k : goal.decreases-loop-k
-decreases-loop-k l = l.k

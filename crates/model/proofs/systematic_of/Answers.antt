@@ -5,8 +5,8 @@ use Rattle.model.proofs.systematic_of.Goals as goal
 
 pub returns-then-denom : goal.returns-then-denom
 unfolding of_bits
-returns-then-denom c = let a = c.args in nothing_said a.g a.rho a.floor a.offset a.grid c.uniform_variance-prior.ensures c.if-denom.true c.about_of.ensures
+returns-then-denom c = let a = c.args in nothing_said a.k.gain a.k.residual a.floor a.offset a.grid c.uniform_variance-prior.ensures c.if-denom.true c.about_of.ensures
 
 pub returns : goal.returns
 unfolding of_bits
-returns c = let a = c.args in something_said a.g a.rho a.floor a.offset a.grid c.uniform_variance-prior.ensures c.if-denom.false c.about_of-2.ensures
+returns c = let a = c.args in something_said a.k.gain a.k.residual a.floor a.offset a.grid c.uniform_variance-prior.ensures c.if-denom.false c.about_of-2.ensures

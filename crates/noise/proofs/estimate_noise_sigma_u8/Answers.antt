@@ -2,19 +2,19 @@
 use Rattle.noise.proofs.Leaving.{ready, leaves_all, clears}
 use Rattle.noise.proofs.estimate_noise_sigma_u8.Goals as goal
 
-pub returns-then-number-ne0 : goal.returns-then-number-ne0
-returns-then-number-ne0 c =
-    let a = c.args in
-    leaves_all a.img.now a.w a.h a.ints.now a.floats.now c.judge-verdict.result c.judge-verdict.ensures c.if-number-ne0.true c.refuse.result c.refuse.ensures
-
 pub measure-requires : goal.measure-requires
 measure-requires c =
     let a = c.args in
-    ready a.img.now a.w a.h a.ints.now a.floats.now c.judge-verdict.result c.judge-verdict.ensures c.if-number-ne0.false
+    ready a.img.now a.w a.h a.ints.now a.floats.now c.judge.result c.judge.ensures c.in-Ok.m c.in-Ok.is
 
-pub returns : goal.returns
-returns c =
+pub returns-in-Ok : goal.returns-in-Ok
+returns-in-Ok c =
     let a = c.args in
     let d = c.measure in
-    clears a.img.now a.w a.h a.ints.now a.floats.now c.judge-verdict.result c.judge-verdict.ensures c.if-number-ne0.false
+    clears a.img.now a.w a.h a.ints.now a.floats.now c.judge.result c.judge.ensures c.in-Ok.m c.in-Ok.is
     d.result d.new.ints d.new.floats d.ensures.0 d.ensures.1 d.ensures.2
+
+pub returns-in-Err : goal.returns-in-Err
+returns-in-Err c =
+    let a = c.args in
+    leaves_all a.img.now a.w a.h a.ints.now a.floats.now c.judge.result c.judge.ensures c.in-Err.why c.in-Err.is c.refuse.result c.refuse.ensures

@@ -5,7 +5,7 @@ use Rattle.pgm.proofs.Runs.{Run}
 use Rattle.pgm.proofs.number_at.Given as goal
 
 abbrev pub invariant-loop-at : goal.invariant-loop-at
-invariant-loop-at l = Run l.file l.at l.k l.n
+invariant-loop-at l = Run l.file l.at l.end l.number
 
 abbrev pub decreases-loop-at : goal.decreases-loop-at
-decreases-loop-at l = length l.file - l.k
+decreases-loop-at l = length l.file - l.end

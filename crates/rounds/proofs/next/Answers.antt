@@ -7,4 +7,4 @@ use Rattle.rounds.proofs.next.Goals as goal
 
 pub returns : goal.returns
 unfolding next of_bits round
-returns c = ap (λ (x : Float). div binary64 (div binary64 c.args.k.sum x) trunc_second_moment) c.f64_of.ensures
+returns c = ap (λ (x : Float). div binary64 (div binary64 c.args.k.sum x) trunc_second_moment) c.nearest_usize_to_f64.ensures

@@ -1,18 +1,16 @@
-use native.Mathlib.Omega.{arith}
-use Rattle.rounds.proofs.Turns.{turning_last, turning_counted, turning_more, turning_end, settle_is, under, used}
+use Rattle.std.proofs.Common.{arith}
+use Rattle.rounds.proofs.Turns.{turning_last, turning_more, turning_end, counted, settle_is, under, used}
 use Rattle.rounds.proofs.settle.Goals as goal
 
-pub returns-then-t : goal.returns-then-t
-returns-then-t c =
-    settle_is _ _ (turning_last c.loop-s.invariant (under c.loop-s-test.true) c.admitted.ensures c.one_round-t.ensures c.if-t.true)
+pub returns-in-Break : goal.returns-in-Break
+returns-in-Break g c = λ f h.
+    settle_is f c.args.start
+    (turning_last (c.loop.invariant.1 f h) (under (omega arith)) (h _ _ c.admits.ensures) c.one_round.ensures c.in-Break.is)
 
-pub loop-s-smaller : goal.loop-s-smaller
-loop-s-smaller c =
-    omega (arith, turning_counted c.loop-s.invariant (under c.loop-s-test.true) c.admitted.ensures c.one_round-t.ensures)
-
-pub loop-s-preserved : goal.loop-s-preserved
-loop-s-preserved c =
-    turning_more c.loop-s.invariant (under c.loop-s-test.true) c.admitted.ensures c.one_round-t.ensures c.if-t.false
+pub loop-preserved : goal.loop-preserved
+loop-preserved g c =
+    (omega (arith, counted c.admits.result c.loop.s c.in-Continue.is c.one_round.ensures), λ f h. turning_more (c.loop.invariant.1 f h) (under (omega arith)) (h _ _ c.admits.ensures) c.one_round.ensures c.in-Continue.is)
 
 pub returns : goal.returns
-returns c = settle_is _ _ (turning_end c.loop-s.invariant (used c.loop-s-test.false))
+returns g c = λ f h.
+    settle_is f c.args.start (turning_end (c.loop.invariant.1 f h) (used (omega arith)))

@@ -13,6 +13,7 @@ pub returns : goal.returns
 returns c =
     let a = c.args in
     let m = c.measure-t.ensures in
-    let fs = figures_of a.img.now a.w a.h a.windows in
-    let e = read_back fs a.ints.now (m.0 ∙ sym (length-map (places_of a.w a.h a.windows) (figure_at a.img.now a.w))) m.1 in
+    let g = a.grid in
+    let fs = figures_of a.img.now g.w g.h g.windows in
+    let e = read_back fs a.ints.now (m.0 ∙ sym (length-map (places_of g.w g.h g.windows) (figure_at a.img.now g.w))) m.1 in
     (c.count-s.ensures ∙ ap sample_of e, m.1, c.scatter.ensures ∙ ap (λ (x : List WindowStats). laid_in x a.floats.now) e)

@@ -1,57 +1,38 @@
-use Rattle.std.proofs.Common.{◌≡◌, ℕ, ◌+◌, ◌≤◌, List, [], ◌∷◌, get_or, set, ℤ, pos, sym, refl, ap, ◌∙◌, subst, arith}
+use Rattle.std.proofs.Common.{rules, ◌≡◌, ℕ, ◌+◌, ◌≤◌, ◌<◌, List, [], ◌∷◌, Option, Some, None, get_or, set, ℤ, pos, sym, refl, ap, ◌∙◌, subst, arith}
 use lib.Ieee.{Float}
-use Rattle.laws.proofs.Machine.{held_of}
+use Rattle.laws.proofs.Machine.{held, held_of}
 use Rattle.measure.specs.Columns.{figure_in, figures_in}
-use Rattle.band.specs.Bands.{rail, band_of, kept_of, sample_of}
-use Rattle.band.specs.declared.Sample.{Sample}
+use Rattle.band.specs.Bands.{rail, band_of, kept_band}
 use Rattle.sample.specs.Laid.{gate32, square32}
-use Rattle.band.proofs.Counting.{counts}
-use Rattle.sample.proofs.Scattering.{Scattering, starts, kept_by_lem, kept_room, place_kept, scatter_start, scatter_hit, scatter_miss, scatter_end}
-use Rattle.sample.proofs.scatter.Goals.{then-b-lt-BANDS, else-b-lt-BANDS}
+use Rattle.band.proofs.Counting.{counts, kept_some, kept_none}
+use Rattle.sample.proofs.Scattering.{Scattering, starts, kept_room, place_kept, scatter_start, scatter_hit, scatter_miss, scatter_end}
+use Rattle.sample.proofs.scatter.Goals.{in-Some, in_default}
 use Rattle.sample.proofs.scatter.Goals as goal
-
--- the sum of the sample's fields
-sum_is : (t : ℕ) (l : List ℤ) (s : Sample) → s ≡ sample_of (figures_in t l) → s.b0 + s.b1 + s.b2 + s.b3 ≡ kept_of (figures_in t l)
-sum_is t l s e = kept_by_lem s (figures_in t l) (counts s (figures_in t l) e)
 
 moved : {t k : ℕ} {l : List ℤ} {old a b : List Float} {m n : List ℕ} → a ≡ b → m ≡ n → Scattering t l old b n k → Scattering t l old a m k
 moved {t} {k} {l} {old} {a} {b} {m} {n} p q i =
     subst (λ (x : List Float). Scattering t l old x m k) (sym p) (subst (λ (x : List ℕ). Scattering t l old b x k) (sym q) i)
 
+-- what `band` says of window k, by its sum
+seen : (l : List ℤ) (k b : ℕ) {o : Option ℕ} → o ≡ kept_band (band_of (held (get_or l k (pos 0)))) → held (get_or l k (pos 0)) ≡ get_or l k (pos 0)
+    → o ≡ Some b → (band_of (get_or l k (pos 0)) ≡ b) × (b < rail)
+seen l k b e f g = kept_some (band_of (get_or l k (pos 0))) b (ap (λ (z : ℤ). kept_band (band_of z)) (sym f) ∙ sym e ∙ g)
+
+unseen : (l : List ℤ) (k : ℕ) {o : Option ℕ} → o ≡ kept_band (band_of (held (get_or l k (pos 0)))) → held (get_or l k (pos 0)) ≡ get_or l k (pos 0)
+    → o ≡ None → rail ≤ band_of (get_or l k (pos 0))
+unseen l k e f g = kept_none (band_of (get_or l k (pos 0))) (ap (λ (z : ℤ). kept_band (band_of z)) (sym f) ∙ sym e ∙ g)
+
+pub overflow_add-e1 : goal.overflow_add-e1
+overflow_add-e1 c = omega (arith, kept_room c.args.t c.args.ints.now c.args.s c.args.floats.now c.requires)
+
+pub overflow_add-e2 : goal.overflow_add-e2
+overflow_add-e2 c = omega (arith, kept_room c.args.t c.args.ints.now c.args.s c.args.floats.now c.requires)
+
 pub overflow_add-kept : goal.overflow_add-kept
-overflow_add-kept c =
-    let a = c.args in
-    omega (arith, sum_is a.t a.ints.now a.s c.requires.counted, kept_room a.t a.ints.now a.floats.now c.requires.room)
+overflow_add-kept c = omega (arith, kept_room c.args.t c.args.ints.now c.args.s c.args.floats.now c.requires)
 
-pub overflow_add-kept-2 : goal.overflow_add-kept-2
-overflow_add-kept-2 c =
-    let a = c.args in
-    omega (arith, sum_is a.t a.ints.now a.s c.requires.counted, kept_room a.t a.ints.now a.floats.now c.requires.room)
-
-pub overflow_add-kept-3 : goal.overflow_add-kept-3
-overflow_add-kept-3 c =
-    let a = c.args in
-    omega (arith, sum_is a.t a.ints.now a.s c.requires.counted, kept_room a.t a.ints.now a.floats.now c.requires.room)
-
-pub overflow_add-next : goal.overflow_add-next
-overflow_add-next c =
-    let a = c.args in
-    omega (arith, sum_is a.t a.ints.now a.s c.requires.counted, kept_room a.t a.ints.now a.floats.now c.requires.room)
-
-pub overflow_add-next-2 : goal.overflow_add-next-2
-overflow_add-next-2 c =
-    let a = c.args in
-    omega (arith, sum_is a.t a.ints.now a.s c.requires.counted, kept_room a.t a.ints.now a.floats.now c.requires.room)
-
-pub overflow_add-next-3 : goal.overflow_add-next-3
-overflow_add-next-3 c =
-    let a = c.args in
-    omega (arith, sum_is a.t a.ints.now a.s c.requires.counted, kept_room a.t a.ints.now a.floats.now c.requires.room)
-
-pub overflow_add-kept-then-b-lt-BANDS : goal.overflow_add-kept-then-b-lt-BANDS
-overflow_add-kept-then-b-lt-BANDS c =
-    let a = c.args in
-    omega (arith, sum_is a.t a.ints.now a.s c.requires.counted, kept_room a.t a.ints.now a.floats.now c.requires.room)
+pub overflow_add-kept-in-Some : goal.overflow_add-kept-in-Some
+overflow_add-kept-in-Some c = omega (arith, kept_room c.args.t c.args.ints.now c.args.s c.args.floats.now c.requires)
 
 pub loop-k-init : goal.loop-k-init
 loop-k-init c =
@@ -65,43 +46,38 @@ lay-requires c =
     let a = c.args in
     let i = c.loop-k.invariant in
     let h = c.loop-k-test.true in
-    let e : band_of (get_or c.args.ints.now c.loop-k.k (pos 0)) ≡ c.band-b.result = ap band_of (sym (held_of c.sum-1.given)) ∙ sym c.band-b.ensures in (
-      omega (arith, c.requires.columns),
+    let e = seen a.ints.now c.loop-k.k c.in-Some.b c.band.ensures (held_of (search rules)) c.in-Some.is in (
+      c.requires.columns,
       h,
-      omega (
-        arith,
-        sum_is a.t a.ints.now a.s c.requires.counted,
-        kept_room a.t a.ints.now a.floats.now c.requires.room,
-        place_kept i.gates c.band-b.result (omega (arith, c.if-b-lt-BANDS.true)) h e,
-        i.long,
-      ),
+      omega (arith, kept_room a.t a.ints.now a.s a.floats.now c.requires, place_kept i.gates c.in-Some.b e.1 h e.0, i.long),
     )
 
-pub overflow_add-next-then-b-lt-BANDS : goal.overflow_add-next-then-b-lt-BANDS
-overflow_add-next-then-b-lt-BANDS c =
+pub overflow_add-next : goal.overflow_add-next
+overflow_add-next c =
     let a = c.args in
-    let e : band_of (get_or c.args.ints.now c.loop-k.k (pos 0)) ≡ c.band-b.result = ap band_of (sym (held_of c.sum-1.given)) ∙ sym c.band-b.ensures in
+    let e = seen a.ints.now c.loop-k.k c.in-Some.b c.band.ensures (held_of (search rules)) c.in-Some.is in
     omega (
       arith,
-      place_kept c.loop-k.invariant.gates c.band-b.result (omega (arith, c.if-b-lt-BANDS.true)) c.loop-k-test.true e,
-      kept_room a.t a.ints.now a.floats.now c.requires.room,
+      place_kept c.loop-k.invariant.gates c.in-Some.b e.1 c.loop-k-test.true e.0,
+      kept_room a.t a.ints.now a.s a.floats.now c.requires,
     )
 
 pub loop-k-preserved : goal.loop-k-preserved
 loop-k-preserved c =
     let a = c.args in
-    let n = get_or c.loop-k.next c.band-b.result 0 in
-    let f = figure_in a.t a.ints.now c.loop-k.k in
     let i = c.loop-k.invariant in
     let h = c.loop-k-test.true in
-    let e : band_of (get_or c.args.ints.now c.loop-k.k (pos 0)) ≡ c.band-b.result = ap band_of (sym (held_of c.sum-1.given)) ∙ sym c.band-b.ensures in
-    let s = sum_is a.t a.ints.now a.s c.requires.counted in
-    let r = kept_room a.t a.ints.now a.floats.now c.requires.room in
-    elim c.if-b-lt-BANDS.branch [
-      | then-b-lt-BANDS w ↦ moved
-          (w.floats-is ∙ w.lay.ensures ∙ ap (λ (m : ℕ). set (set c.loop-k.floats n (gate32 f)) (m + 1 + n) (square32 f)) s) w.next-is
-          (scatter_hit i h c.band-b.result (omega (arith, w.if-b-lt-BANDS.true)) e (omega (arith, r)) refl refl)
-      | else-b-lt-BANDS w ↦ moved w.floats-is w.next-is (scatter_miss i h (subst (λ (m : ℕ). rail ≤ m) (sym e) w.if-b-lt-BANDS.false))
+    let r = kept_room a.t a.ints.now a.s a.floats.now c.requires in
+    let f = figure_in a.t a.ints.now c.loop-k.k in
+    elim c.match-band.branch [
+      | in-Some w ↦
+          let e = seen a.ints.now c.loop-k.k w.in-Some.b c.band.ensures (held_of (search rules)) w.in-Some.is in
+          let n = get_or c.loop-k.next w.in-Some.b 0 in
+          moved
+          (w.floats-is ∙ w.lay.ensures ∙ ap (λ (m : ℕ). set (set c.loop-k.floats n (gate32 f)) (m + 1 + n) (square32 f)) r.0) w.next-is
+          (scatter_hit i h w.in-Some.b e.1 e.0 (omega (arith, r)) refl refl)
+      | in_default w ↦ moved w.floats-is w.next-is
+          (scatter_miss i h (unseen a.ints.now c.loop-k.k c.band.ensures (held_of (search rules)) w.in_default.is))
     ]
 
 pub returns : goal.returns

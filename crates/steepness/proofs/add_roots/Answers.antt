@@ -12,4 +12,4 @@ use Rattle.steepness.proofs.add_roots.Goals as goal
 pub returns : goal.returns
 returns c =
     let l = c.args.top.now in
-    fold_end c.loop-k.invariant (omega arith) ∙ ap (λ (z : Float). foldl (λ a x. add binary32 a (sqrt binary32 x)) z l) zero_is ∙ sym (foldl_map (add binary32) (sqrt binary32) (f32_of 0) l)
+    fold_end c.loop-x.invariant (omega arith) ∙ ap (λ (z : Float). foldl (λ a x. add binary32 a (sqrt binary32 x)) z l) zero_is ∙ sym (foldl_map (add binary32) (sqrt binary32) (f32_of 0) l)

@@ -5,11 +5,11 @@ use Rattle.steepness.proofs.largest.Goals as goal
 
 pub insert-requires : goal.insert-requires
 insert-requires c =
-    (c.loop-m.invariant.long, c.loop-m.invariant.all, clear_at c.args.gradients.now c.requires.1 c.loop-m.m (omega arith), kept_rises c.requires.0 c.requires.1 c.loop-m.invariant)
+    (c.loop-v.invariant.all, clear_at c.args.gradients.now c.requires c.loop-v.v-index (omega arith), kept_rises c.told-gradients c.requires c.loop-v.invariant)
 
-pub loop-m-preserved : goal.loop-m-preserved
-loop-m-preserved c =
-    keep_put c.requires.0 c.requires.1 c.loop-m.invariant c.loop-m-test.true c.insert.ensures
+pub loop-v-preserved : goal.loop-v-preserved
+loop-v-preserved c =
+    keep_put c.told-gradients c.requires c.loop-v.invariant c.loop-v-test.true c.insert.ensures
 
 pub returns : goal.returns
-returns c = keep_end c.loop-m.invariant c.loop-m-test.false
+returns c = keep_end c.loop-v.invariant c.loop-v-test.false

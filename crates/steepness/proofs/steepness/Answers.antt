@@ -13,5 +13,5 @@ pub returns : goal.returns
 unfolding steepness
 returns c =
     let e : c.add_roots.result ≡ summed (map (sqrt binary32) (largest c.args.gradients.now))
-    = c.add_roots.ensures ∙ ap (λ (l : List Float). summed (map (sqrt binary32) l)) c.largest-top.ensures in
+    = c.add_roots.ensures ∙ ap (λ (l : List Float). summed (map (sqrt binary32) l)) c.largest.ensures in
     λ i. div binary32 (mul binary32 (half_is i) (e i)) (eight_is i)

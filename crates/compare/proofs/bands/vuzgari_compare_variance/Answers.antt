@@ -1,7 +1,8 @@
 -- No variance is no number.
-use lib.Ieee.{binary64}
-use Rattle.ieee.proofs.Tests.{zero_over_zero}
+use mathlib.Core.Path.{refl}
+use lib.Ieee.{of_bits}
 use Rattle.compare.proofs.bands.vuzgari_compare_variance.Goals as goal
 
-pub returns-in-Missing : goal.returns-in-Missing
-returns-in-Missing c = rw (← c.variance-v.ensures, c.in-Missing.is) (zero_over_zero binary64)
+pub returns-in-None : goal.returns-in-None
+unfolding of_bits
+returns-in-None c = rw (← c.variance.ensures, c.in-None.is) refl

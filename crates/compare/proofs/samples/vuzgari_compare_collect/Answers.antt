@@ -20,4 +20,4 @@ five s (a ∷ b ∷ c ∷ d ∷ e ∷ l) h = refl
 pub returns : goal.returns
 returns c =
     let n = c.collect-s in
-    (five n.result c.args.counts.now c.requires.1 ∙ ap (λ (s : Sample). counts_in s c.args.counts.now) n.ensures.0, n.ensures.1, n.ensures.2)
+    (five n.result c.args.counts.now c.requires.3 ∙ ap (λ (s : Sample). counts_in s c.args.counts.now) n.ensures.0, n.ensures.1, n.ensures.2)

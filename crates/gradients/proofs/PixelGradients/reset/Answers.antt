@@ -1,14 +1,11 @@
--- The old state under the support's number, or zeros under 0. Assumes nothing.
-use mathlib.Core.Path.{sym, ◌∙◌}
+-- Zeros, where nothing refuses the support. Assumes nothing.
+use mathlib.Core.Path.{ap}
 use lib.Ieee.{of_bits}
-use Rattle.gradients.specs.Gradients.{cleared_state, reset_of}
-use Rattle.gradients.proofs.Refusals.{kept, changed}
+use Rattle.std.specs.Prelude.{Result}
+use Rattle.numbers.specs.declared.Number.{Number}
+use Rattle.gradients.specs.Gradients.{cleared_state, handed, reset_of}
 use Rattle.gradients.proofs.PixelGradients.reset.Goals as goal
-
-pub returns-then-number-ne0 : goal.returns-then-number-ne0
-unfolding reset_of
-returns-then-number-ne0 c = let a = c.args in kept a.self _ c.state_number-number.result c.if-number-ne0.true c.state_number-number.ensures
 
 pub returns : goal.returns
 unfolding reset_of of_bits
-returns c = let a = c.args in changed a.self (cleared_state a.origin a.side) (sym c.if-number-ne0.false ∙ c.state_number-number.ensures)
+returns c = ap (λ (r : Result Unit Number). handed r c.args.self (λ _. cleared_state c.args.origin c.args.side)) c.in_default.ensures

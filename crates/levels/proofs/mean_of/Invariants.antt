@@ -1,0 +1,12 @@
+-- The values that count, added as whole numbers: whatever test the closure computes.
+use Rattle.std.proofs.Common.{◌≡◌, ◌*◌, ◌≤◌, Bool}
+use lib.Ieee.{Float}
+use Rattle.levels.proofs.Means.{Summing}
+use Rattle.levels.proofs.mean_of.Given as goal
+
+abbrev pub invariant-loop-m : goal.invariant-loop-m
+invariant-loop-m g l = record {
+  small : l.sum ≤ l.m * 65280;
+  few : l.n ≤ l.m;
+  sums : (p : Float → Bool) → ((v : Float) (r : Bool) → goal.F-post g l.counts v r → r ≡ p v) → Summing p l.values l.sum l.n l.m;
+}

@@ -1,0 +1,72 @@
+-- Document 01's and 02's number of each reason, 0 standing for a figure.
+use Rattle.std.specs.Prelude.{◌≡◌, ℕ, ◌-◌, Result, Ok, Err, List, [], ◌∷◌, get_or, refl}
+use Rattle.std.proofs.Common.{sym, ◌∙◌, ap}
+use Rattle.numbers.specs.declared.Number.{Number}
+use Rattle.numbers.specs.declared.Number.TheVariants.{SideAbove, OtherLength, SideBelow, ShortSlice, Few, NoBand, Thin, Far, Flat, Support, Outside}
+use Rattle.numbers.specs.declared.Number.TheVariants.{FloatRange, NotFinite, Knots, NotALid, ManyPixels, OtherMark, ShortRecord, BrokenRule}
+use Rattle.numbers.specs.declared.Number.TheVariants.{PgmHeader, PgmMaximum, PgmRaster}
+
+abbrev pub number_of : Number → ℕ
+number_of SideAbove = 1
+number_of OtherLength = 2
+number_of SideBelow = 3
+number_of ShortSlice = 4
+number_of Few = 5
+number_of NoBand = 6
+number_of Thin = 7
+number_of Far = 8
+number_of Flat = 9
+number_of Support = 10
+number_of Outside = 11
+number_of FloatRange = 12
+number_of NotFinite = 13
+number_of Knots = 14
+number_of NotALid = 15
+number_of ManyPixels = 16
+number_of OtherMark = 17
+number_of ShortRecord = 18
+number_of BrokenRule = 19
+number_of PgmHeader = 20
+number_of PgmMaximum = 21
+number_of PgmRaster = 22
+
+-- 0 of a figure
+abbrev pub number_in : {A : Type 0} → Result A Number → ℕ
+number_in (Ok x) = 0
+number_in (Err why) = number_of why
+
+-- all of them, in the order of their numbers
+abbrev pub all : List Number
+all =
+    SideAbove ∷ OtherLength ∷ SideBelow ∷ ShortSlice ∷ Few ∷ NoBand
+    ∷ Thin ∷ Far ∷ Flat ∷ Support ∷ Outside ∷ FloatRange
+    ∷ NotFinite ∷ Knots ∷ NotALid ∷ ManyPixels ∷ OtherMark ∷ ShortRecord
+    ∷ BrokenRule ∷ PgmHeader ∷ PgmMaximum ∷ PgmRaster ∷ []
+
+pub in_order : (why : Number) → get_or all (number_of why - 1) SideAbove ≡ why
+in_order SideAbove = refl
+in_order OtherLength = refl
+in_order SideBelow = refl
+in_order ShortSlice = refl
+in_order Few = refl
+in_order NoBand = refl
+in_order Thin = refl
+in_order Far = refl
+in_order Flat = refl
+in_order Support = refl
+in_order Outside = refl
+in_order FloatRange = refl
+in_order NotFinite = refl
+in_order Knots = refl
+in_order NotALid = refl
+in_order ManyPixels = refl
+in_order OtherMark = refl
+in_order ShortRecord = refl
+in_order BrokenRule = refl
+in_order PgmHeader = refl
+in_order PgmMaximum = refl
+in_order PgmRaster = refl
+
+-- no two have the same number
+pub apart : (a b : Number) → number_of a ≡ number_of b → a ≡ b
+apart a b same = sym (in_order a) ∙ ap (λ n. get_or all (n - 1) SideAbove) same ∙ in_order b

@@ -1,0 +1,8 @@
+-- The limit is the whole number. Assumes nothing.
+use lib.Ieee.{of_bits}
+use Rattle.ranges.proofs.Bounds.{whole_value, within_is}
+use Rattle.ranges.proofs.within.Goals as goal
+
+pub returns : goal.returns
+unfolding of_bits
+returns g c = within_is _ _ (whole_value _ c.requires) c.args.x

@@ -1,6 +1,0 @@
--- A field a turn.
-use Prim.Native.Nat.{◌-◌}
-use Rattle.stored_records.proofs.report_fields.Given as goal
-
-abbrev pub decreases-loop-k : goal.decreases-loop-k
-decreases-loop-k g l = 12 - l.k
