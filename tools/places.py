@@ -16,6 +16,7 @@ root = args[args.index("--root") + 1] if "--root" in args else "."
 count_only = "--count" in args
 points = [a for a in args if re.fullmatch(r"[1-8]", a)] or list("12345678")
 found = collections.defaultdict(list)
+KEYWORDS = {"if", "else", "while", "for", "in", "let", "mut", "return", "match", "as"}
 # what C calls: their exported functions keep numbers and pointers with lengths
 C_CALLS = {"vuzgari", "vuzgari_c", "compare", "compare_c"}
 
@@ -115,7 +116,7 @@ for crate, where, text in sources():
             seen = {}
             shape = []
             for w in words:
-                if re.match(r"[A-Za-z_]\w*$", w) and w not in ("if", "else", "while", "for", "in", "let", "mut", "return", "match", "as"):
+                if re.match(r"[A-Za-z_]\w*$", w) and w not in KEYWORDS:
                     w = seen.setdefault(w, "v%d" % len(seen))
                 elif re.match(r"\d|b'|\"", w):
                     w = "N"
@@ -167,7 +168,8 @@ for (crate, who), names in pairs.items():
     found["5"].append((crate, "together in %d functions: %s" % (len(who), ", ".join(sorted(names)))))
 for path in sorted(glob.glob(os.path.join(root, "crates/*/proofs/**/Answers.antt"), recursive=True)):
     crate = path[len(root) :].lstrip("/").split("/")[1]
-    found["8"].append((crate, "%s, %d answers" % ("/".join(path.split("/proofs/")[1].split("/")[:-1]), len(re.findall(r"^pub ", open(path).read(), re.M)))))
+    where = "/".join(path.split("/proofs/")[1].split("/")[:-1])
+    found["8"].append((crate, "%s, %d answers" % (where, len(re.findall(r"^pub ", open(path).read(), re.M)))))
 
 for p in points:
     print("point %s: %d" % (p, len(found[p])))

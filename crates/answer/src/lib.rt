@@ -4,7 +4,7 @@
 ghost use Rattle.std.specs.Prelude.{◌≡◌, ◌++◌, ◌≤◌, length, drop};
 ghost use Rattle.answer.specs.Fields.{words_of, bytes_of_words, answer_bytes};
 
-// Ten flat fields, a number beside sigma: the layout that C reads.
+// Document 01's list: ten flat fields, a number beside sigma.
 #[derive(Drop)]
 pub struct Answer {
     // 0, or the number of document 01 that says why there is no sigma
@@ -33,7 +33,7 @@ pub fn words(a: Answer) -> [u32; 10]
     ]
 }
 
-// Ten numbers, four bytes each, from the front on.
+// Ten numbers, four bytes each, from the front on. By `put`: a copy of `to_le_bytes` would name both ends of its place in `out`.
 fn put_words(out: &mut [u8], words: [u32; 10])
     requires { 40 ≤ length out.old }
     ensures { out.new ≡ bytes_of_words words ++ drop 40 out.old }

@@ -1,12 +1,13 @@
 // The windows of a pass counted by band.
 #![tactic(auto)]
 
-ghost use Rattle.std.specs.Prelude.{◌≡◌, ◌≤◌, length};
+ghost use Rattle.std.specs.Prelude.{◌≡◌, [], ◌∷◌, ◌+◌, ◌<◌, ◌≤◌, ◌^◌, length};
 ghost use Rattle.measure.specs.Columns.{figures_in};
 ghost use Rattle.band.specs.Bands.{band_of, kept_band, sample_of};
 
 // How many windows each intensity band has, by pixel sum: below 1,024, 2,048, 3,072 and above; and how many are near the rails
-// and dropped: the answer's five counts, each a field as C reads them.
+// and dropped. They are fields and no array: document 01 names the answer's five counts so, and every definition over the count
+// of a band would index the array.
 #[derive(Clone, Copy)]
 pub struct Sample {
     pub b0: usize,
@@ -14,6 +15,19 @@ pub struct Sample {
     pub b2: usize,
     pub b3: usize,
     pub rail: usize,
+}
+
+impl Sample {
+    // Where each band begins, where they stand one after another, and where the last one ends.
+    pub fn starts(self) -> [usize; 5]
+        requires { self.b0 + self.b1 + self.b2 + self.b3 < 2 ^ 64 }
+        ensures { result ≡ 0 ∷ self.b0 ∷ (self.b0 + self.b1) ∷ (self.b0 + self.b1 + self.b2)
+            ∷ (self.b0 + self.b1 + self.b2 + self.b3) ∷ [] }
+    {
+        let e1 = self.b0 + self.b1;
+        let e2 = e1 + self.b2;
+        [0, self.b0, e1, e2, e2 + self.b3]
+    }
 }
 
 // The band of a window by its pixel sum, none near the rails, where clipping removes noise.

@@ -1,6 +1,7 @@
 -- Values that are lent by their parts, and answers in what is lent.
-use Rattle.std.specs.Prelude.{ℕ, ◌≡◌, List, [], ◌∷◌, ℤ, get_or, Float, Result}
+use Rattle.std.specs.Prelude.{ℕ, ◌≡◌, List, [], ◌∷◌, ℤ, get_or, replicate, Float, Result, MatchResult}
 use Rattle.std.specs.Float.{nan}
+use Rattle.ieee.specs.Numbers.{plus_zero}
 use Rattle.numbers.specs.declared.Number.{Number}
 use Rattle.numbers.specs.Numbers.{number_in}
 use Rattle.refine.specs.Covariance.{covariance, figures}
@@ -25,6 +26,11 @@ covariance_from l = covariance (get_or l 0 nan) (get_or l 1 nan) (get_or l 2 nan
 
 abbrev pub entries : PositionCovariance → List Float
 entries c = c.xx ∷ c.xy ∷ c.yy ∷ []
+
+-- the number, and the n floats, zeros where there are none
+pub record ToldFloats (n : ℕ) (j : Result (List Float) Number) (number : ℕ) (out : List Float) : Type 0 where
+  pub told : number ≡ number_in j
+  pub laid : MatchResult j (λ l. out ≡ l) (λ _. out ≡ replicate n plus_zero)
 
 -- the number, and the figures by their three floats
 pub record Told (j : Result PositionCovariance Number) (n : ℕ) (out : List Float) : Type 0 where

@@ -21,9 +21,11 @@ pub record ToldAt (a : Result GainResidual Number) (number : ℕ) (out : List Fl
   pub told : number ≡ number_in a
   pub laid : out ≡ at_gain a ∷ at_residual a ∷ []
 
--- the number, and the model by its eight floats
+-- a model's eight floats
+abbrev pub floats : CovarianceModel → List Float
+floats m = entries m.noise ++ (entries m.systematic ++ (get_or m.growth 0 nan ∷ get_or m.growth 1 nan ∷ []))
+
+-- the number, and the model by its floats
 pub record ToldModel (m : Result CovarianceModel Number) (number : ℕ) (out : List Float) : Type 0 where
   pub told : number ≡ number_in m
-  pub laid : out
-      ≡ entries (model_shown m).noise
-      ++ (entries (model_shown m).systematic ++ (get_or (model_shown m).growth 0 nan ∷ get_or (model_shown m).growth 1 nan ∷ []))
+  pub laid : out ≡ floats (model_shown m)

@@ -1,4 +1,5 @@
 // The rounds and the joining, a number an export. The bands end before e1, e2, e3 and the end.
+// The facts stand in each contract, as C's caller owes them: C hands over slices and ends, and no Band.
 ghost use Rattle.std.specs.Prelude.{◌≡◌, length};
 ghost use Rattle.quantile.specs.Rising.{at};
 ghost use Rattle.quantile.specs.Quantile.{quiet};
@@ -56,10 +57,9 @@ pub fn vuzgari_compare_variance_count(gate: &[f32], op: &[f32], image_var: f64) 
     requires { length gate.now ≡ length op.now }
     ensures { result ≡ windows_of (band_variance gate.now op.now image_var).found }
 {
-    match rounds::variance(Band { gate, op }, image_var).found {
-        Some(found) => found.n,
-        None => 0,
-    }
+    rounds::variance(Band { gate, op }, image_var)
+        .found
+        .map_or(0, |found| found.n)
 }
 
 // The variance, and no number where there is none.
@@ -67,10 +67,9 @@ pub fn vuzgari_compare_variance(gate: &[f32], op: &[f32], image_var: f64) -> f64
     requires { length gate.now ≡ length op.now }
     ensures { result ≡ at (variance_of (band_variance gate.now op.now image_var).found) 0 }
 {
-    match rounds::variance(Band { gate, op }, image_var).found {
-        Some(found) => found.var,
-        None => f64::NAN,
-    }
+    rounds::variance(Band { gate, op }, image_var)
+        .found
+        .map_or(f64::NAN, |found| found.var)
 }
 
 pub fn vuzgari_compare_variance_rounds(gate: &[f32], op: &[f32], image_var: f64) -> usize

@@ -1,15 +1,14 @@
 // The covariance model. Knots, covariances, offsets and growths are lent by their floats; the figures go to `out`.
-ghost use Rattle.std.specs.Prelude.{◌≡◌};
+ghost use Rattle.std.specs.Prelude.{◌≡◌, [], ◌∷◌};
 ghost use Rattle.model.specs.Knots.{table, at_of};
 ghost use Rattle.covariance.specs.Noise.{noise_at, total_at};
 ghost use Rattle.model.specs.Model.{model_of};
 ghost use Rattle.compare.specs.Lent.{covariance_from, Told};
-ghost use Rattle.compare.specs.Models.{width_from, model_from, ToldAt, ToldModel};
+ghost use Rattle.compare.specs.Models.{width_from, model_from, floats, ToldAt, ToldModel};
 
-use crate::covariances::{covariance_of, told};
+use crate::covariances::{covariance_of, lay, told};
 use covariance::CovarianceModel;
 use model::{GainResidual, SystematicModel};
-use numbers::Number;
 
 fn width_of(known: bool, w: f32) -> Option<f32>
     ensures { result ≡ width_from known w }
@@ -38,23 +37,15 @@ pub fn vuzgari_compare_at(
         count,
         floor,
     };
-    lay_at(s.at(width_of(known, w)), out)
+    let answer = s.at(width_of(known, w));
+    lay(answer.map(pair_of), out)
 }
 
-// The number, gain and residual.
-fn lay_at(answer: Result<GainResidual, Number>, out: &mut [f32; 2]) -> u32
-    ensures { ToldAt answer result out.new }
+// Gain and residual. A function, as `covariance_of` is.
+fn pair_of(at: GainResidual) -> [f32; 2]
+    ensures { result ≡ at.gain ∷ at.residual ∷ [] }
 {
-    match answer {
-        Ok(at) => {
-            *out = [at.gain, at.residual];
-            0
-        }
-        Err(why) => {
-            *out = [0.0; 2];
-            u32::from(why)
-        }
-    }
+    [at.gain, at.residual]
 }
 
 pub fn vuzgari_compare_model(
@@ -82,29 +73,18 @@ pub fn vuzgari_compare_model(
         count,
         floor,
     };
-    lay(
-        s.model(covariance_of(noise), *offset, width_of(known, w), grid),
-        out,
-    )
+    let answer = s.model(covariance_of(noise), *offset, width_of(known, w), grid);
+    lay(answer.map(floats_of), out)
 }
 
-// The number, and the model's eight floats, zeros where there is none.
-fn lay(answer: Result<CovarianceModel, Number>, out: &mut [f32; 8]) -> u32
-    ensures { ToldModel answer result out.new }
+// The model's eight floats. Functions, as `covariance_of` is, here and in `model_of`.
+fn floats_of(m: CovarianceModel) -> [f32; 8]
+    ensures { result ≡ floats m }
 {
-    match answer {
-        Ok(m) => {
-            let d = m.noise;
-            let e = m.systematic;
-            let g = m.growth;
-            *out = [d.xx, d.xy, d.yy, e.xx, e.xy, e.yy, g[0], g[1]];
-            0
-        }
-        Err(why) => {
-            *out = [0.0; 8];
-            u32::from(why)
-        }
-    }
+    let d = m.noise;
+    let e = m.systematic;
+    let g = m.growth;
+    [d.xx, d.xy, d.yy, e.xx, e.xy, e.yy, g[0], g[1]]
 }
 
 fn model_of(noise: &[f32; 3], systematic: &[f32; 3], growth: &[f32; 2]) -> CovarianceModel

@@ -1,4 +1,4 @@
-// The grid of a pass.
+// The grid of a pass. The facts stand in each contract, as C's caller owes them: C hands over sides and counts, and no Grid.
 ghost use Rattle.std.specs.Prelude.{◌≡◌, ◌*◌, ◌<◌, ◌≤◌, ◌^◌};
 ghost use Rattle.grid.specs.Step.{step_of};
 ghost use Rattle.grid.specs.Grid.{Sides, first_x, row_count, total_of};

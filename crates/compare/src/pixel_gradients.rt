@@ -6,6 +6,28 @@ ghost use Rattle.compare.specs.Lent.{state, HandedBack, Told};
 use crate::covariances::told;
 use gradients::{PixelGradients, Unchanged};
 
+fn lay(
+    s: &PixelGradients,
+    origin: &mut [i32; 2],
+    side: &mut usize,
+    gx: &mut [f32; 1024],
+    gy: &mut [f32; 1024],
+)
+    ensures { state origin.new side.new gx.new gy.new ≡ s.now }
+{
+    let PixelGradients {
+        origin: o,
+        side: n,
+        gx: x,
+        gy: y,
+    } = s;
+    *origin = *o;
+    *side = *n;
+    *gx = *x;
+    *gy = *y;
+}
+
+// Each case lays its own state, so that none is moved before.
 fn leave(
     h: Result<PixelGradients, Unchanged>,
     origin: &mut [i32; 2],
@@ -15,18 +37,16 @@ fn leave(
 ) -> u32
     ensures { HandedBack h result origin.new side.new gx.new gy.new }
 {
-    let (s, number) = match h {
-        Ok(state) => (state, 0),
-        Err(unchanged) => (unchanged.state, u32::from(unchanged.why)),
-    };
-    let o = s.origin;
-    let x = s.gx;
-    let y = s.gy;
-    *origin = o;
-    *side = s.side;
-    *gx = x;
-    *gy = y;
-    number
+    match h {
+        Ok(s) => {
+            lay(&s, origin, side, gx, gy);
+            0
+        }
+        Err(unchanged) => {
+            lay(&unchanged.state, origin, side, gx, gy);
+            u32::from(unchanged.why)
+        }
+    }
 }
 
 pub fn vuzgari_compare_reset(

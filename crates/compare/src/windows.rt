@@ -1,4 +1,4 @@
-// A window's figures, one by one.
+// A window's figures, one by one. The facts stand in each contract, as C's caller owes them: C hands over an image and a place.
 ghost use Rattle.std.specs.Prelude.{◌≡◌, ◌+◌, ◌*◌, ◌≤◌, length};
 ghost use Rattle.window.specs.Window.{pixels_at, stats_of};
 

@@ -1,4 +1,4 @@
-// An f64 as an f32, and an f32 rounded down to a whole number.
+// An f64 as an f32, and an f32 rounded down to a whole number: document 01 names both as our own.
 #![tactic(auto)]
 
 ghost use Rattle.std.specs.Prelude.{◌≡◌, ◌^◌, ◌<◌, ◌≤◌};
@@ -55,8 +55,8 @@ fn narrow_size(a: u64) -> u64
 pub fn to_f32(x: f64) -> f32
     ensures { result ≡ convert binary32 x }
 {
-    if x != x {
-        return 0.0 / 0.0;
+    if x.is_nan() {
+        return f32::NAN;
     }
     let b = f64::to_bits(x);
     if b >= 0x8000_0000_0000_0000 {
@@ -70,7 +70,7 @@ pub fn to_f32(x: f64) -> f32
 pub fn floor32(x: f32) -> f32
     ensures { result ≡ floor binary32 x }
 {
-    if x != x {
+    if x.is_nan() {
         return x;
     }
     let b = f32::to_bits(x);
@@ -84,7 +84,7 @@ pub fn floor32(x: f32) -> f32
     }
     let digits = 0x80_0000 + a % 0x80_0000;
     let p = if field >= 126 {
-        pow2((150 - field) as u64) as u32
+        pow2(u64::from(150 - field)) as u32
     } else {
         0x100_0000
     };

@@ -63,7 +63,7 @@ impl CovarianceModel {
         ensures { result ≡ model_in_range self sigma }
     {
         ranges::all_within(self.noise)
-            & ranges::all_finite(self.systematic)
+            & self.systematic.is_finite()
             & ranges::both_within(self.growth)
             & ranges::sigma_in_range(sigma)
     }
@@ -77,7 +77,8 @@ impl CovarianceModel {
         scaled_by(self.noise, var, grown_by(var, k0), grown_by(var, k1))
     }
 
-    // The noise term alone at `sigma`.
+    // The noise term alone at `sigma`. In line, since a call would hand the model over in memory and wait for it.
+    #[inline(always)]
     #[tactic(auto, unfolding(crate::specs::Noise::noise_at))]
     pub fn noise_at(self, sigma: f32) -> Result<PositionCovariance, Number>
         ensures { result ≡ noise_at self sigma }

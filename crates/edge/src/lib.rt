@@ -17,7 +17,7 @@ pub fn edge_width(img: ImageView, centre: [i32; 2]) -> EdgeWidth
     }
 }
 
-// The same of the view of a slice, for a caller that has no view.
+// The same for a caller that has no view: slice, sides and origin apart, as C lends them.
 pub fn view_edge_width(
     pixels: &[u8],
     width: usize,

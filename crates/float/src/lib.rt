@@ -1,5 +1,5 @@
-// The operations of Rust's f32 and f64 that Rattle's casts and operators lack. Each answers for every
-// input, and its result is what a definition of the crate `ieee` gives.
+// Order, sign and bits of f32 and f64 for every input, as the definitions of the crate `ieee` give them. Document 01 names
+// maximum, absolute value and `total_cmp` as our own, and std's `min` leaves open which of two zeros it gives.
 #![tactic(auto)]
 
 ghost use Rattle.std.specs.Prelude.{◌≡◌, Float};
@@ -112,8 +112,7 @@ pub fn total_less<F: Real>(a: F, b: F) -> bool
 pub fn is_finite32(x: f32) -> bool
     ensures { result ≡ finite x }
 {
-    let top = 1.0 / 0.0;
-    -top < x && x < top
+    x.is_finite()
 }
 
 // f64::abs: x with its sign clear.
@@ -131,8 +130,5 @@ pub fn abs64(x: f64) -> f64
 pub fn bits32(x: f32) -> u32
     ensures { result ≡ to_bits binary32 x }
 {
-    if x != x {
-        return 0x7fc0_0000;
-    }
-    f32::to_bits(x)
+    std::num::f32_to_bits_with_nan(x)
 }

@@ -10,8 +10,11 @@ use lib.Seq.{get_or-set_same, get_or-set_other, get_or-take}
 use lib.Ieee
 use lib.Ieee.{Float, nan, binary32}
 use Rattle.refine.specs.Covariance.{zeros, judged}
-use Rattle.std.specs.Prelude.{Ok}
-use Rattle.support.specs.Support.{state_judged}
+use Rattle.std.specs.Prelude.{Result, Ok, Err}
+use Rattle.numbers.specs.declared.Number.{Number}
+use Rattle.numbers.specs.Numbers.{number_in}
+use Rattle.refine.proofs.Numbers.{not_0}
+use Rattle.support.specs.Support.{state_judged, state_number}
 use Rattle.support.proofs.Places.{few_cells, taken_long}
 use Rattle.support.proofs.Refusals.{small}
 use Rattle.ieee.specs.Numbers.{plus_zero}
@@ -47,16 +50,26 @@ cleared_cells n h i l = get_or-take n (replicate 1024 plus_zero) i nan low ∙ g
     low : i < n
     low = omega (arith, taken_long n (replicate 1024 plus_zero) h refl)
 
+-- nothing refuses what has the number 0
+taken : (r : Result Unit Number) → 0 ≡ number_in r → Ok tt ≡ r
+taken (Ok tt) e = refl
+taken (Err why) e = absurd (not_0 why (sym e))
+
 -- a support that is reset and to which nothing is added sums to zeros
-pub reset_zeros : (o : List ℤ) (side : ℕ) → Ok tt ≡ state_judged o side → covariance_of (cleared_state o side) ≡ Ok zeros
-reset_zeros o side e = sym (covariance_0 (cleared_state o side) e) ∙ gram_zero _ _ cells cells refl
+pub reset_zeros : (o : List ℤ) (side : ℕ) → 0 ≡ state_number o side → covariance_of (cleared_state o side) ≡ Ok zeros
+reset_zeros o side e = sym (covariance_0 (cleared_state o side) judged_taken) ∙ gram_zero _ _ cells cells refl
   where
+    judged_taken : Ok tt ≡ state_judged o side
+    judged_taken = taken (state_judged o side) e
+
     cells : Zeros (take (side * side) (replicate 1024 plus_zero))
-    cells = cleared_cells (side * side) (few_cells side (small o side e))
+    cells = cleared_cells (side * side) (few_cells side (small o side judged_taken))
 
 -- side 0 gives zeros, whatever the cells hold
-pub side_0_zeros : (s : PixelGradients) → Ok tt ≡ state_judged s.origin s.side → s.side ≡ 0 → covariance_of s ≡ Ok zeros
-side_0_zeros s e h = sym (covariance_0 s e) ∙ ap (λ (n : ℕ). judged (gram (take (n * n) s.gx) (take (n * n) s.gy))) h ∙ gram_zero [] [] none none refl
+pub side_0_zeros : (s : PixelGradients) → 0 ≡ state_number s.origin s.side → s.side ≡ 0 → covariance_of s ≡ Ok zeros
+side_0_zeros s e h =
+    sym (covariance_0 s (taken (state_judged s.origin s.side) e)) ∙ ap (λ (n : ℕ). judged (gram (take (n * n) s.gx) (take (n * n) s.gy))) h
+    ∙ gram_zero [] [] none none refl
   where
     none : Zeros []
     none i l = absurd (not-suc-le-zero l)

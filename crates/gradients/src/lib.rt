@@ -18,11 +18,11 @@ pub struct PixelGradients {
     pub gy: [f32; 1024],
 }
 
-// Why a call changes nothing, and the state as it was.
+// The state as it was, and why a call changes nothing. The state is first, so that an answer holds it in one place either way.
 #[derive(Drop)]
 pub struct Unchanged {
-    pub why: Number,
     pub state: PixelGradients,
+    pub why: Number,
 }
 
 // No support.

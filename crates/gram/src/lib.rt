@@ -29,7 +29,8 @@ pub fn gram(gx: &[f32], gy: &[f32]) -> Result<PositionCovariance, Number>
     PositionCovariance::new(xx, xy, yy).finite()
 }
 
-// Whether a cell is a NaN. The loop has no jump on the cells, and the sums need no test of their own.
+// Whether a cell is a NaN. The loop has no jump on the cells, and the sums need no test of their own. By place: with a `zip`,
+// tried, its turn (`loop-x-preserved`) stays open.
 fn any_nan(gx: &[f32], gy: &[f32]) -> bool
     requires { length gx.now ≡ length gy.now }
     ensures { result ≡ any_nan gx.now gy.now (length gx.now) }
@@ -49,7 +50,7 @@ struct Three {
     yy: f64,
 }
 
-// Gradients without a NaN, as two columns.
+// Gradients without a NaN, as two columns, which the calls from C lend.
 #[derive(Clone, Copy)]
 struct Plain<'a> {
     gx: &'a [f32],
@@ -91,7 +92,7 @@ impl Plain<'_> {
         requires { i < length self.gx.now }
         ensures { Added self.entry.gx.now self.entry.gy.now 1 i s 1 result }
     {
-        // `f64::from` would test each cell for a NaN anew
+        // `no_nan` is at hand. `f64::from`, no plainer, tests each cell anew: the sum over side 32 takes half as long again by it
         let x = self.gx[i] as f64;
         let y = self.gy[i] as f64;
         Three {

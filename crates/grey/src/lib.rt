@@ -1,8 +1,8 @@
 // `pgmnoise`, from its input's bytes to its output's: parse, measure, print.
 #![tactic(auto)]
 
-ghost use Rattle.std.specs.Prelude.{◌≡◌, replicate};
-ghost use Rattle.grey.specs.Grey.{grey_bytes, grey_parsed, grey_answer, grey_output, grey_said};
+ghost use Rattle.std.specs.Prelude.{◌≡◌};
+ghost use Rattle.grey.specs.Grey.{grey_parsed, grey_answer, grey_output, grey_said};
 ghost use Rattle.grey.specs.Remark.{grey_remark};
 
 use answer::Answer;
@@ -18,21 +18,13 @@ pub const INPUT_BYTES: usize = 21 + MOST_PIXELS + 1;
 // As many as a remark may take.
 pub const REMARK_BYTES: usize = 151;
 
-// Room for an input.
-pub fn input_room() -> [u8; INPUT_BYTES]
-    ensures { result ≡ replicate grey_bytes 0 }
-{
-    [0u8; INPUT_BYTES]
-}
-
-// The image, where it has not too many pixels, or the first of 20, 21, 16, 22 that applies.
+// The image, where it has not too many pixels, or the first of 20, 21, 16, 22 that applies. `pgm::read_front` has these tests
+// too, without 16, which stands between them.
 #[tactic(auto, unfolding(crate::specs::Grey::grey_parsed), using(pgm::proofs::Heads::few_pixels))]
 pub fn parse(input: &[u8]) -> Result<Image, Number>
     ensures { result ≡ grey_parsed input.now }
 {
-    let Some(head) = pgm::header(input) else {
-        return Err(Number::PgmHeader);
-    };
+    let head = pgm::header(input).ok_or(Number::PgmHeader)?;
     if head.maximum != 255 {
         return Err(Number::PgmMaximum);
     }
@@ -57,7 +49,7 @@ pub fn answer_to(input: &[u8]) -> Answer
     lid::answer_found(input, parse(input))
 }
 
-// What is said of a number.
+// What is said of a number, which is as the answer has it for C.
 #[tactic(auto, unfolding(crate::specs::Remark::grey_remark, reasons::specs::Reasons::remark_by))]
 fn remark(number: u32) -> ArrayString<REMARK_BYTES>
     ensures { result.bytes ≡ grey_remark number }
@@ -66,14 +58,9 @@ fn remark(number: u32) -> ArrayString<REMARK_BYTES>
 }
 
 // What `pgmnoise` writes for an input.
-pub fn pgmnoise(input: &[u8]) -> Said<REMARK_BYTES>
+pub fn pgmnoise(input: &[u8]) -> Said<ArrayString<REMARK_BYTES>>
     ensures output { result.output.bytes ≡ grey_output input.now }
     ensures remark { result.remark.bytes ≡ grey_said input.now }
 {
-    let a = answer_to(input);
-    let number = a.number;
-    Said {
-        output: lid_bytes::report(a),
-        remark: remark(number),
-    }
+    Said::of(answer_to(input), remark)
 }

@@ -1,9 +1,9 @@
 -- The step is the least: it reaches the pixels and no smaller one does; and only one number is such. Assumes nothing.
-use mathlib.Core.Path.{◌≡◌, refl, sym, ap, ◌∙◌, subst}
+use mathlib.Core.Path.{◌≡◌, refl, sym, ap, ◌∙◌}
 use mathlib.Core.Bool.{Bool, true, false}
 use mathlib.Core.Logic.{⊎_elim}
-use Prim.Native.Nat.{ℕ, zero, suc, ◌+◌, ◌-◌, ◌*◌, ◌≤◌, ◌<◌}
-use native.Mathlib.Nat.{eq-or-lt_of_le, le_antisymm, mul-le-mul, mul-le-mul_left, mul-le-mul_right}
+use Prim.Native.Nat.{ℕ, zero, suc, ◌+◌, ◌-◌, ◌*◌, ◌/◌, ◌≤◌, ◌<◌}
+use native.Mathlib.Nat.{eq-or-lt_of_le, le_antisymm, mul-le-mul, mul-le-mul_left, le-div_iff_mul-le, div-lt_iff_lt-mul}
 use native.Mathlib.Omega.{arith}
 use borrow.Author.Tests.{leb-true, leb-false}
 use lib.Dec.{leb}
@@ -68,52 +68,20 @@ below {pixels} {windows} {s} {t} a b =
 pub step_unique : {pixels windows s t : ℕ} → IsStep pixels windows s → IsStep pixels windows t → s ≡ t
 step_unique a b = le_antisymm (below a b) (below b a)
 
--- ---- its size: what stands here holds of each s that the search for it meets
-
-pub record Searching (pixels windows s : ℕ) : Type 0 where
-  pub some : 1 ≤ s
-  pub least : (t : ℕ) → 1 ≤ t → t < s → t * t * windows < pixels
-
-module _ {pixels windows s : ℕ} (few : pixels ≤ 268435456) (h : 1 ≤ windows) (i : Searching pixels windows s) where
-  last : 1 < s → (s - 1) * (s - 1) * windows < pixels
-  last g = i.least (s - 1) (omega arith) (omega arith)
-
-  pub small : s ≤ 16384
-  small =
-      let t = s - 1 in
-      let room : 16384 ≤ t → ⊥ = λ k. omega (arith, mul-le-mul k k, mul-le-mul_left (t * t) h, last (omega arith)) in
-      omega arith
-
-  pub product : windows < 18446744073709551616 → s * s * windows < 18446744073709551616
-  product f = ⊎_elim one more (eq-or-lt_of_le i.some)
-    where
-      one : 1 ≡ s → s * s * windows < 18446744073709551616
-      one q = subst (λ (n : ℕ). n * n * windows < 18446744073709551616) q (omega arith)
-
-      more : 1 < s → s * s * windows < 18446744073709551616
-      more g =
-          let twice : s ≤ 2 * (s - 1) = omega arith in
-          omega (arith, last g, mul-le-mul_right windows (mul-le-mul twice twice))
-
--- the next one is met if this one does not reach
-pub onward : {pixels windows s : ℕ} → Searching pixels windows s → s * s * windows < pixels → Searching pixels windows (s + 1)
-onward {pixels} {windows} {s} i h =
-    record {
+-- one more than the last whose square falls short
+pub root_is : {pixels windows : ℕ} (r : ℕ) → 1 ≤ pixels → 1 ≤ windows
+    → r * r ≤ (pixels - 1) / windows → (pixels - 1) / windows < (r + 1) * (r + 1) → r + 1 ≡ step_of pixels windows
+root_is {pixels} {windows} r g h low high =
+    step_unique
+    (record {
       some = omega arith;
-      least = λ t a b. ⊎_elim (λ e. subst (λ (u : ℕ). u * u * windows < pixels) (sym e) h) (λ l. i.least t a l) (eq-or-lt_of_le (up b));
-    }
-  where
-    up : {t : ℕ} → t < s + 1 → t ≤ s
-    up g = omega arith
-
-pub begun : {pixels windows : ℕ} → Searching pixels windows 1
-begun = record { some = omega arith; least = λ t a b. absurd (none t a b) }
-  where
-    none : (t : ℕ) → 1 ≤ t → t < 1 → ⊥
-    none t a b = omega arith
-
-pub found : {pixels windows s : ℕ} → 1 ≤ windows → Searching pixels windows s → pixels ≤ s * s * windows → s ≡ step_of pixels windows
-found {pixels} {windows} h i r = step_unique (record { some = i.some; reaches = r; least = i.least }) (step_is pixels windows h)
+      reaches = omega (arith, g, (div-lt_iff_lt-mul {k = windows} {x = pixels - 1} {y = (r + 1) * (r + 1)} h).0 high);
+      least = λ t a b.
+          let t_most : t ≤ r = omega arith in
+          let root : t * t ≤ (pixels - 1) / windows = omega (arith, low, mul-le-mul t_most t_most) in
+          omega (arith, g, (le-div_iff_mul-le {k = windows} {x = t * t} {y = pixels - 1} h).0 root);
+    })
+    (step_is pixels windows h)
 
 -- ---- of the sides that a pass takes
 
@@ -123,4 +91,7 @@ few w h s = omega (arith, mul-le-mul s.w_most s.h_most)
 pub step_most : (w h windows : ℕ) → Sides w h → 1 ≤ windows → step_of (w * h) windows ≤ 16384
 step_most w h windows s g =
     let e = step_is (w * h) windows g in
-    small (few w h s) g (record { some = e.some; least = e.least })
+    let t = step_of (w * h) windows - 1 in
+    let room : 16384 ≤ t → ⊥ =
+    λ k. omega (arith, mul-le-mul k k, mul-le-mul_left (t * t) g, few w h s, e.least t (omega arith) (omega arith)) in
+    omega (arith, e.some, room)

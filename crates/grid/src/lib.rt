@@ -5,7 +5,7 @@
 ghost use Rattle.std.specs.Prelude.{◌≡◌, ◌+◌, ◌*◌, ◌<◌, ◌≤◌, ◌^◌};
 ghost use Rattle.grid.specs.Step.{step_of};
 ghost use Rattle.grid.specs.Grid.{Sides, first_x, row_count, rows_of, total_of};
-ghost use Rattle.grid.specs.Needed.{needed_of, sizing_of};
+ghost use Rattle.grid.specs.Needed.{first_w, second_w, needed_of, sizing_of};
 
 use numbers::Number;
 
@@ -25,17 +25,37 @@ pub struct Grid {
 }
 
 impl Grid {
-    // The least whole step, 1 or more, whose square times `windows` reaches the number of pixels.
+    // The grid of the first pass. Here and in `dense` the name says the pass: a call with the number would be the literal itself.
+    pub fn first(w: usize, h: usize) -> Grid
+        requires { Sides w h }
+        ensures { (result.w ≡ w) × (result.h ≡ h) × (result.windows ≡ first_w) }
+    {
+        Grid {
+            w,
+            h,
+            windows: WINDOWS,
+        }
+    }
+
+    // The grid of the second pass.
+    pub fn dense(w: usize, h: usize) -> Grid
+        requires { Sides w h }
+        ensures { (result.w ≡ w) × (result.h ≡ h) × (result.windows ≡ second_w) }
+    {
+        Grid {
+            w,
+            h,
+            windows: DENSE,
+        }
+    }
+
+    // The least whole step, 1 or more, whose square times `windows` reaches the number of pixels: one more than the last that
+    // falls short.
+    #[tactic(auto, using(crate::proofs::Steps::root_is))]
     pub fn step(self) -> usize
         ensures { result ≡ step_of (self.w * self.h) self.windows }
     {
-        let pixels = self.w * self.h;
-        // Not a range's `find`: that needs a top to look up to, and an answer past it.
-        let mut s = 1;
-        while s * s * self.windows < pixels {
-            s += 1;
-        }
-        s
+        ((self.w * self.h - 1) / self.windows).isqrt() + 1
     }
 
     // T: how many windows the pass has.
@@ -81,19 +101,11 @@ pub fn needed(w: usize, h: usize) -> usize
     requires { Sides w h }
     ensures { result ≡ needed_of w h }
 {
-    let first = Grid {
-        w,
-        h,
-        windows: WINDOWS,
-    };
+    let first = Grid::first(w, h);
     if first.step() == 1 {
         return first.window_count();
     }
-    let second = Grid {
-        w,
-        h,
-        windows: DENSE,
-    };
+    let second = Grid::dense(w, h);
     first.window_count().max(second.window_count())
 }
 

@@ -27,7 +27,6 @@ pub mod BoundedPatterns
 -- What proofs of code cite, besides.
 pub mod Tests
 pub mod Reading
-pub mod Arms
 pub mod AboveZero
 pub mod Narrowing
 pub mod SqrtPatterns

@@ -9,7 +9,29 @@ pub fn place(v: i32, o: i32, most: usize) -> usize
     ensures { result ≡ clamped (v +ℤ o) most }
 {
     let g = i64::from(v) + i64::from(o);
-    if g < 0 { 0 } else { (g as usize).min(most) }
+    usize::try_from(g).unwrap_or(0).min(most)
+}
+
+// The sample at (x, y), on the slice and numbers: document 01 wants thin functions of a view over those on the slice. The length
+// is asked here and not of every view, which would ask more of `with_origin`.
+pub fn sample_at(
+    pixels: &[u8],
+    width: usize,
+    height: usize,
+    origin: [i32; 2],
+    x: i32,
+    y: i32,
+) -> f32
+    requires { length pixels.now ≡ width * height }
+    ensures { result ≡ sample pixels.now width height origin x y }
+{
+    if width == 0 || height == 0 {
+        return 0.0;
+    }
+    let lx = place(x, origin[0], width - 1);
+    let ly = place(y, origin[1], height - 1);
+    let at = ly * width + lx;
+    f32::from(pixels[at])
 }
 
 // Lent pixels, row by row, with the sides and the origin that a place is moved by.
@@ -42,18 +64,12 @@ impl<'a> ImageView<'a> {
         }
     }
 
-    // The sample at (x, y). The length is asked here and not of every view, which would ask more of `with_origin`.
+    // The sample at (x, y).
     pub fn sample(self, x: i32, y: i32) -> f32
         requires { length self.pixels.now ≡ self.width * self.height }
         ensures { result ≡
             sample self.entry.pixels.now self.entry.width self.entry.height self.entry.origin x y }
     {
-        if self.width == 0 || self.height == 0 {
-            return 0.0;
-        }
-        let lx = place(x, self.origin[0], self.width - 1);
-        let ly = place(y, self.origin[1], self.height - 1);
-        let at = ly * self.width + lx;
-        f32::from(self.pixels[at])
+        sample_at(self.pixels, self.width, self.height, self.origin, x, y)
     }
 }

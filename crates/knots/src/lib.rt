@@ -13,19 +13,32 @@ pub enum Place {
     Between(usize, f32),
 }
 
+// Lent columns of one or more knots, as model has them in arrays, the form that document 01 names.
+#[derive(Clone, Copy)]
+pub struct Table<'a> {
+    pub widths: &'a [f32],
+    pub gains: &'a [f32],
+    pub residuals: &'a [f32],
+    ghost some: { 0 < length widths.now },
+    ghost all_gains: { length gains.now ≡ length widths.now },
+    ghost all_residuals: { length residuals.now ≡ length widths.now },
+}
+
 // Whether each width is below the next.
 pub fn rises(widths: &[f32]) -> bool
     ensures { result ≡ every (rises_at widths.now) (length widths.now - 1) }
 {
     let mut all = true;
-    for k in 0..widths.len().saturating_sub(1) {
-        all &= widths[k] < widths[k + 1];
+    for pair in widths.windows(2) {
+        all &= pair[0] < pair[1];
     }
     all
 }
 
 // Whether each width is above the one before it, and each knot's numbers are in the range of knots: one loop without a jump.
-// Before the first width stands a NaN, which no float is at or below; a NaN among the widths is out of range.
+// Before the first width stands a NaN, which no float is at or below; a NaN among the widths is out of range. It goes by place:
+// with one `zip` in another the loop's turn (`loop-width-preserved`) stays open, as no search tells that the items are the
+// columns'.
 pub fn rises_in_range(widths: &[f32], gains: &[f32], residuals: &[f32]) -> bool
     requires { (length gains.now ≡ length widths.now) × (length residuals.now ≡ length widths.now) }
     ensures { result ≡ sound widths.now gains.now residuals.now (length widths.now) }
@@ -44,45 +57,33 @@ pub fn rises_in_range(widths: &[f32], gains: &[f32], residuals: &[f32]) -> bool
     all
 }
 
-// Lent knots, one or more.
-#[derive(Clone, Copy)]
-pub struct Table<'a> {
-    pub widths: &'a [f32],
-    pub gains: &'a [f32],
-    pub residuals: &'a [f32],
-    ghost some: { 0 < length widths.now },
-    ghost all_gains: { length gains.now ≡ length widths.now },
-    ghost all_residuals: { length residuals.now ≡ length widths.now },
+// The place of an edge width, px, among one or more knots.
+#[tactic(auto, unfolding(crate::specs::Places::place), using(crate::proofs::Tables::place_from_in))]
+pub fn place_of(widths: &[f32], width: Option<f32>) -> Place
+    requires { 0 < length widths.now }
+    ensures place { result ≡ place widths.now (length widths.now) width }
+    ensures among { AmongKnots (length widths.now) result }
+{
+    match width {
+        Some(w) if float::is_finite32(w) & !(w <= widths[0]) => between_knots(widths, w),
+        _ => Place::Knot(0),
+    }
 }
 
-impl Table<'_> {
-    // The place of an edge width, px.
-    #[tactic(auto, unfolding(crate::specs::Places::place), using(crate::proofs::Tables::place_from_in))]
-    pub fn place(self, width: Option<f32>) -> Place
-        ensures place { result ≡ place self.entry.widths.now (length self.entry.widths.now) width }
-        ensures among { AmongKnots (length self.entry.widths.now) result }
-    {
-        match width {
-            Some(w) if float::is_finite32(w) & !(w <= self.widths[0]) => self.between(w),
-            _ => Place::Knot(0),
+// The place of w, which is above the first knot.
+#[tactic(auto, using(crate::proofs::Tables::seek_more))]
+fn between_knots(widths: &[f32], w: f32) -> Place
+    requires { 0 < length widths.now }
+    ensures { result ≡ place_from widths.now w 0 (length widths.now - 1) }
+{
+    for (k, pair) in widths.windows(2).enumerate() {
+        let lower = pair[0];
+        let upper = pair[1];
+        if w <= upper {
+            return Place::Between(k, (w - lower) / (upper - lower));
         }
     }
-
-    // The place of w, which is above the first knot.
-    #[tactic(auto, using(crate::proofs::Tables::seek_more))]
-    fn between(self, w: f32) -> Place
-        ensures { result ≡ place_from self.entry.widths.now w 0 (length self.entry.widths.now - 1) }
-    {
-        let last = self.widths.len() - 1;
-        for k in 0..last {
-            let lower = self.widths[k];
-            let upper = self.widths[k + 1];
-            if w <= upper {
-                return Place::Between(k, (w - lower) / (upper - lower));
-            }
-        }
-        Place::Knot(last)
-    }
+    Place::Knot(widths.len() - 1)
 }
 
 // A gain or residual at a place.

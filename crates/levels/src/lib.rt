@@ -9,15 +9,16 @@ ghost use Rattle.levels.specs.Whole.{Upto, AllUpto};
 ghost use Rattle.levels.specs.Filtered.{filtered};
 ghost use Rattle.levels.specs.Levels as Levels;
 
-// v, which is a whole number. It goes by i32, in fewer instructions than straight to u32.
+// v, which is a whole number.
 fn number(v: f32) -> u32
     requires { Upto 65280 v }
     ensures { (v ≡ f32_of result) × (result ≤ 65280) }
 {
-    (v as i32) as u32
+    v as u32
 }
 
-// The highest and the lowest value, in one loop without a jump on them.
+// The highest and the lowest value, in one loop without a jump on them. It goes by place: over `&values[1..]`, tried, its turn
+// (`loop-v-preserved`) stays open.
 fn extremes(values: &[f32; 81]) -> (f32, f32)
     requires { AllUpto 65280 values.now }
     ensures { (result.0 ≡ Levels.highest values.now) × (result.1 ≡ Levels.lowest values.now) }
@@ -50,10 +51,9 @@ fn mean_of<F: Fn(f32) -> bool>(values: &[f32; 81], counts: F) -> f32
 {
     let mut sum = 0;
     let mut n = 0;
-    for m in 0..81 {
-        let v = values[m];
-        if counts(v) {
-            sum += number(v);
+    for v in values {
+        if counts(*v) {
+            sum += number(*v);
             n += 1;
         }
     }

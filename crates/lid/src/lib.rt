@@ -4,6 +4,7 @@
 ghost use Rattle.std.specs.Prelude.{◌≡◌, false, ◌*◌, ◌≤◌, length, IfOk};
 ghost use Rattle.noise.specs.Call.{noise_of};
 ghost use Rattle.lid_bytes.specs.Input.{most_pixels};
+ghost use Rattle.lid_bytes.specs.Report.{report_of};
 ghost use Rattle.lid.specs.Answer.{answer_found, lid_answer, output_of, said_of};
 
 use answer::Answer;
@@ -29,7 +30,7 @@ pub fn answer_found(input: &[u8], found: Result<Image, Number>) -> Answer
 {
     match found {
         Ok(image) => measure(&input[image.start..], image.width, image.height),
-        Err(why) => noise::refuse(why),
+        Err(why) => noise::refuse(u32::from(why)),
     }
 }
 
@@ -41,22 +42,33 @@ pub fn answer_to(input: &[u8]) -> Answer
     answer_found(input, lid_bytes::parse(input))
 }
 
-// What a program writes: on standard output, and on standard error.
+// What a program writes: on standard output, and on standard error. The remark's text is a T: the bound of `of` gets no proof
+// where it names the text's room, a const parameter.
 #[derive(Drop)]
-pub struct Said<const N: usize> {
+pub struct Said<T> {
     pub output: ArrayString<REPORT_BYTES>,
-    pub remark: ArrayString<N>,
+    pub remark: T,
+}
+
+impl<T> Said<T> {
+    // Of an answer: its report, and what `remark` says of its number.
+    pub fn of<F: FnOnce(u32) -> T>(a: Answer, remark: F) -> Said<T>
+        requires { F.IsAlwaysCallable remark }
+        ensures output { result.output.bytes ≡ report_of a }
+        ensures remark { F.post remark a.number result.remark }
+    {
+        let remark = remark(a.number);
+        Said {
+            output: lid_bytes::report(a),
+            remark,
+        }
+    }
 }
 
 // What `lidnoise` writes for an input.
-pub fn lidnoise(input: &[u8]) -> Said<REMARK_BYTES>
+pub fn lidnoise(input: &[u8]) -> Said<ArrayString<REMARK_BYTES>>
     ensures output { result.output.bytes ≡ output_of input.now }
     ensures remark { result.remark.bytes ≡ said_of input.now }
 {
-    let a = answer_to(input);
-    let number = a.number;
-    Said {
-        output: lid_bytes::report(a),
-        remark: lid_bytes::remark(input, number),
-    }
+    Said::of(answer_to(input), |number| lid_bytes::remark(input, number))
 }

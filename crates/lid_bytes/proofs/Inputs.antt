@@ -1,11 +1,11 @@
 -- Each cause of an input's refusal, where none before it applies; what a parsed image says of its input.
 use mathlib.Core.Path.{◌≡◌, refl, ap}
 use mathlib.Core.Bool.{Bool, true, false, cond, not}
-use mathlib.Core.List.{List}
+use mathlib.Core.List.{List, [], ◌∷◌}
 use Prim.Native.Nat.{ℕ, ◌+◌, ◌*◌, ◌≤◌, ◌<◌}
 use native.Mathlib.Omega.{arith}
 use lib.Dec.{ltb, eqb}
-use lib.ListN.{length}
+use lib.ListN.{length, get_or}
 use lib.Seq.{slice}
 use borrow.Author.Tests.{lt-ltb, le-ltb, eq-eqb, ne_eqb, ltb-false}
 use Rattle.little_endian.specs.Bytes.{value_of}
@@ -53,3 +53,19 @@ module _ (input : List ℕ) where
             omega (arith, ap (λ (k : Image). k.start) same, ltb-false (length input) 4 t),
             omega (arith, ap (λ (k : Image). k.width * k.height) same, ltb-false most_pixels pixels u),
           )
+
+-- ---- the sides by the first four bytes
+
+pub w_is : (input : List ℕ) → 4 ≤ length input → width_of input ≡ value_of (get_or input 0 0 ∷ get_or input 1 0 ∷ [])
+unfolding width_of
+w_is [] h = absurd (omega (arith, h))
+w_is (a ∷ []) h = absurd (omega (arith, h))
+w_is (a ∷ b ∷ l) h = refl
+
+pub h_is : (input : List ℕ) → 4 ≤ length input → height_of input ≡ value_of (get_or input 2 0 ∷ get_or input 3 0 ∷ [])
+unfolding height_of
+h_is [] h = absurd (omega (arith, h))
+h_is (a ∷ []) h = absurd (omega (arith, h))
+h_is (a ∷ b ∷ []) h = absurd (omega (arith, h))
+h_is (a ∷ b ∷ c ∷ []) h = absurd (omega (arith, h))
+h_is (a ∷ b ∷ c ∷ d ∷ l) h = refl

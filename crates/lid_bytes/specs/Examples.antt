@@ -9,7 +9,8 @@ use Rattle.text.specs.Line.{field_of, line_of}
 use Rattle.answer.specs.declared.Answer.{Answer}
 use Rattle.numbers.specs.declared.Number.TheVariants.{NotALid, ManyPixels}
 use Rattle.pgm.specs.Read.{image_at}
-use Rattle.lid_bytes.specs.Input.{width_of, height_of, parsed_of}
+use Rattle.lid_bytes.specs.declared.TheConstants.{INPUT_BYTES}
+use Rattle.lid_bytes.specs.Input.{input_bytes, width_of, height_of, parsed_of}
 use Rattle.lid_bytes.specs.Report.{report_bytes, report_of}
 use Rattle.reasons.specs.Reasons.{reason_at, reason_of, numbered_of}
 use Rattle.lid_bytes.specs.Remark.{begins_p5, pgm_of, remark_of, remark_bytes}
@@ -29,6 +30,10 @@ fifteen = (refl, refl, refl)
 pub sixteen : (parsed_of (17 ∷ 0 ∷ 241 ∷ 0 ∷ []) ≡ Err ManyPixels) × (parsed_of (64 ∷ 0 ∷ 64 ∷ 0 ∷ []) ≡ Err NotALid)
 unfolding parsed_of width_of height_of value_of
 sixteen = (refl, refl)
+
+-- the room for an input
+pub input_room : INPUT_BYTES ≡ input_bytes
+input_room = refl
 
 -- ---- reports
 

@@ -1,8 +1,9 @@
 // What `lidnoise` reads and writes, as bytes: an input parsed, an answer printed.
 #![tactic(auto)]
 
-ghost use Rattle.std.specs.Prelude.{◌≡◌, ◌≤◌, length, replicate};
-ghost use Rattle.lid_bytes.specs.Input.{input_bytes, parsed_of};
+ghost use Rattle.std.specs.Prelude.{◌≡◌, ◌≤◌, ◌<◌, length, [], ◌∷◌};
+ghost use Rattle.little_endian.specs.Bytes.{value_of};
+ghost use Rattle.lid_bytes.specs.Input.{parsed_of};
 ghost use Rattle.lid_bytes.specs.Report.{fields_of, report_of};
 ghost use Rattle.lid_bytes.specs.Remark.{begins_p5, pgm_line, pgm_of, remark_of};
 
@@ -24,23 +25,25 @@ pub const REPORT_BYTES: usize = 260;
 // As many as a remark may take.
 pub const REMARK_BYTES: usize = 235;
 
-// Room for an input.
-pub fn input_room() -> [u8; INPUT_BYTES]
-    ensures { result ≡ replicate input_bytes 0 }
+// A side by its bytes, the low one first.
+#[tactic(auto, unfolding(little_endian::specs::Bytes::value_of))]
+fn side(low: u8, high: u8) -> usize
+    ensures value { result ≡ value_of (low ∷ high ∷ []) }
+    ensures below { result < 65536 }
 {
-    [0u8; INPUT_BYTES]
+    usize::from(u16::from_le_bytes([low, high]))
 }
 
 // The image with the sides in the first four bytes, where as many pixels follow as they say, and not too many.
-#[tactic(auto, unfolding(crate::specs::Input::parsed_of, crate::specs::Input::width_of, crate::specs::Input::height_of))]
+#[tactic(auto, unfolding(crate::specs::Input::parsed_of), using(crate::proofs::Inputs::w_is, crate::proofs::Inputs::h_is))]
 pub fn parse(input: &[u8]) -> Result<Image, Number>
     ensures { result ≡ parsed_of input.now }
 {
-    if input.len() < 4 {
+    let &[a, b, c, d, ..] = input else {
         return Err(Number::NotALid);
-    }
-    let width = little_endian::get(input, 0, 2) as usize;
-    let height = little_endian::get(input, 2, 2) as usize;
+    };
+    let width = side(a, b);
+    let height = side(c, d);
     if width * height > MOST_PIXELS {
         return Err(Number::ManyPixels);
     }
@@ -61,7 +64,7 @@ fn fields(a: Answer) -> [Field; 10]
     let [number, sigma, milli, b0, b1, b2, b3, rail, rounds, passes] = answer::words(a);
     [
         Field::Decimal(u64::from(number)),
-        Field::Hex(sigma),
+        Field::Hex(u64::from(sigma)),
         Field::Decimal(u64::from(milli)),
         Field::Decimal(u64::from(b0)),
         Field::Decimal(u64::from(b1)),
@@ -105,7 +108,7 @@ fn pgm_line(input: &[u8]) -> &'static str
     }
 }
 
-// What is said of an input that has this number.
+// What is said of an input that has this number, which is as the answer has it for C.
 pub fn remark(input: &[u8], number: u32) -> ArrayString<REMARK_BYTES>
     ensures { result.bytes ≡ remark_of input.now number }
 {

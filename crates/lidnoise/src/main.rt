@@ -3,7 +3,7 @@
 #![tactic(auto)]
 
 fn main(rt: HostRuntime) {
-    let mut room = lid_bytes::input_room();
+    let mut room = [0; lid_bytes::INPUT_BYTES];
     let input = streams::read_input(
         &rt,
         "lidnoise",

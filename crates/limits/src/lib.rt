@@ -1,4 +1,5 @@
-// What a call judges before it looks at a pixel: the sides of an image, how many pixels it has, and places.
+// What a call judges before it looks at a pixel: the sides of an image, how many pixels it has, and places. Sides and length stay
+// apart, as C lends them: whether they fit each other is what `judge` finds.
 #![tactic(auto)]
 
 ghost use Rattle.std.specs.Prelude.{◌≡◌};
@@ -11,20 +12,14 @@ use numbers::Number;
 pub fn too_large(w: usize, h: usize) -> bool
     ensures { result ≡ too_large w h }
 {
-    if w > 16_384 {
-        return true;
-    }
-    h > 16_384
+    w > 16_384 || h > 16_384
 }
 
 // Whether a side is below 4.
 pub fn too_small(w: usize, h: usize) -> bool
     ensures { result ≡ too_small w h }
 {
-    if w < 4 {
-        return true;
-    }
-    h < 4
+    w < 4 || h < 4
 }
 
 // Why document 01 refuses an image of w by h with so many pixels, where it does.
@@ -44,18 +39,12 @@ pub fn judge(pixels: usize, w: usize, h: usize) -> Result<(), Number>
 pub fn far(v: i32) -> bool
     ensures { result ≡ is_far v }
 {
-    if v < -1_000_000 {
-        return true;
-    }
-    v > 1_000_000
+    v < -1_000_000 || v > 1_000_000
 }
 
 // Whether a part of a place is beyond ±1,000,000.
 pub fn far_place(place: [i32; 2]) -> bool
     ensures { result ≡ far_place place }
 {
-    if far(place[0]) {
-        return true;
-    }
-    far(place[1])
+    far(place[0]) || far(place[1])
 }

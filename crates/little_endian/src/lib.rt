@@ -1,5 +1,5 @@
-// Whole numbers as little-endian bytes in lent slices. They take a place and a count: a caller that cuts the slice itself has the same
-// room to show, and its ends to join again.
+// Whole numbers as little-endian bytes in lent slices. They take a place and a count: a caller that cuts the slice itself has the
+// same room to show, and its ends to join again.
 #![tactic(auto)]
 
 ghost use Rattle.std.specs.Prelude.{◌≡◌, ◌+◌, ◌^◌, ◌≤◌, ◌<◌, length};
@@ -7,7 +7,8 @@ ghost use Rattle.std.proofs.Math.Seq.{slice};
 ghost use Rattle.laws.specs.Lists.{laid};
 ghost use Rattle.little_endian.specs.Bytes.{bytes_of, value_of};
 
-// Writes the count low bytes of x from place `at` on. All other bytes stay.
+// Writes the count low bytes of x from place `at` on. All other bytes stay. A loop: `to_le_bytes` gives eight, and count has no
+// limit.
 #[tactic(auto, using(crate::proofs::Loops::put_end))]
 pub fn put(out: &mut [u8], at: usize, count: usize, x: u64)
     requires { at + count ≤ length out.old }
@@ -20,7 +21,8 @@ pub fn put(out: &mut [u8], at: usize, count: usize, x: u64)
     }
 }
 
-// The number that the count bytes from place `at` on stand for.
+// The number that the count bytes from place `at` on stand for. A loop: for `from_le_bytes` they would be copied to eight first.
+// By place: with `iter().rev()`, tried, its turn (`loop-byte-preserved`) stays open.
 #[tactic(auto, using(crate::proofs::Loops::get_start, crate::proofs::Loops::get_fits))]
 pub fn get(bytes: &[u8], at: usize, count: usize) -> u64
     requires { (count ≤ 8) × (at + count ≤ length bytes.now) }

@@ -6,7 +6,7 @@ ghost use Rattle.logging.specs.Logging.{field_at, record_from};
 
 use record::Record;
 
-// Field k of an answer's bytes.
+// Field k of an answer's bytes. By `get32`: for `u32::from_le_bytes` each of its four bytes would be named.
 fn field(answer: &[u8], k: usize) -> u32
     requires { (k < 10) × (40 ≤ length answer.now) }
     ensures { result ≡ field_at answer.now k }

@@ -1,4 +1,5 @@
-// The windows of a pass measured into the lent i32 slice.
+// The windows of a pass measured into the lent i32 slice: three columns, of sums, gates and outputs, in one slice because C lends
+// it so.
 #![tactic(auto)]
 
 ghost use Rattle.std.specs.Prelude.{◌≡◌, ℕ, ◌+◌, ◌*◌, ◌<◌, ◌≤◌, length, slice_index_or};
@@ -81,7 +82,7 @@ impl Row<'_> {
     }
 }
 
-// Every window of the pass, in sampling order, into columns as long as there are windows.
+// Every window of the pass, in sampling order, into columns as long as there are windows: those of the one slice that C lends.
 pub fn measure(img: &[u8], grid: Grid, ints: &mut [i32]) -> usize
     requires { Measurable img.now grid.w grid.h grid.windows ints.old }
     ensures { (result ≡ total_of grid.w grid.h grid.windows)

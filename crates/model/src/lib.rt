@@ -75,7 +75,7 @@ fn at_knots(knots: Table<'_>, width: Option<f32>) -> GainResidual
         ≡ value_at knots.entry.residuals.now
         (place knots.entry.widths.now (length knots.entry.widths.now) width) }
 {
-    let p = knots.place(width);
+    let p = knots::place_of(knots.widths, width);
     GainResidual {
         gain: knots::interpolated(knots.gains, p),
         residual: knots::interpolated(knots.residuals, p),

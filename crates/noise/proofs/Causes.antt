@@ -15,7 +15,8 @@ use Rattle.laws.proofs.Choice.{chosen, passed}
 use Rattle.std.specs.Prelude.{Result, Ok, Err}
 use Rattle.numbers.specs.declared.Number.{Number}
 use Rattle.numbers.specs.declared.Number.TheVariants.{SideAbove, OtherLength, SideBelow, ShortSlice}
-use Rattle.numbers.specs.Numbers.{number_of, all, in_order, apart}
+use Rattle.numbers.specs.Numbers.{number_of, all}
+use Rattle.numbers.proofs.Apart.{in_order, apart}
 use Rattle.limits.specs.Limits.{too_large, other_length, too_small, image_number}
 use Rattle.limits.proofs.Laws.{neither, not_large, not_small, not_refused, as_long}
 use Rattle.grid.specs.Grid.{Sides}

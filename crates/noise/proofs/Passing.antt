@@ -128,10 +128,6 @@ module _ {img : List ℕ} {w h m : ℕ} {ints : List ℤ} {floats : List Float} 
 
   -- ---- which pass decides and the answer, p being what the first gave
   module _ (p : Pass) (is : p ≡ pass_of first) where
-    -- t being the step
-    pub decides : {b : Bool} {t : ℕ} → t ≡ s → b ≡ first_decides t p → first_decides s p ≡ b
-    decides e h = sym (h ∙ ap (λ (k : ℕ). first_decides k p) e)
-
     pub runs_one : {b : Bool} → first_decides s p ≡ b → one_runs img w h ≡ b
     runs_one e = ap (first_decides s) (sym is) ∙ e
 

@@ -7,7 +7,7 @@ use Rattle.grid.specs.Needed.{first_w, second_w, needed_of}
 use Rattle.measure.specs.Figures.{figures_of}
 use Rattle.pass.specs.Pass.{pass_of}
 use Rattle.pass.specs.Memory.{ints_for, floats_for}
-use Rattle.clear.specs.Cleared.{cleared}
+use Rattle.noise.specs.Cleared.{cleared}
 use Rattle.answer.specs.declared.Answer.{Answer}
 use Rattle.noise.specs.Refusals.{refusal_of}
 use Rattle.noise.specs.Answers.{first_decides, answer_of}

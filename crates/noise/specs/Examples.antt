@@ -1,5 +1,5 @@
 -- Worked examples: the order of the causes, which pass decides, after which numbers memory is cleared and how far.
-use Rattle.std.specs.Prelude.{◌≡◌, refl, true, false, [], ◌∷◌, pos, Float, Result, Ok, Err}
+use Rattle.std.specs.Prelude.{◌≡◌, refl, ℕ, true, false, List, [], ◌∷◌, pos, Float, Result, Ok, Err}
 use Rattle.numbers.specs.declared.Number.{Number}
 use Rattle.numbers.specs.declared.Number.TheVariants.{Few, NoBand}
 use Rattle.std.specs.Float.Ieee.{of_int}
@@ -8,6 +8,7 @@ use Rattle.milli.specs.Thousandths.{milli_of}
 use Rattle.pass.specs.declared.Pass.{Pass}
 use Rattle.noise.specs.Refusals.{refusal_of}
 use Rattle.noise.specs.Answers.{decided}
+use Rattle.noise.specs.Cleared.{cleared}
 use Rattle.noise.specs.Call.{ran, cleared_ints, cleared_floats}
 
 -- no pixel, a side too large, one too small, short memory; then one cause less each
@@ -49,6 +50,10 @@ numbers_that_clear = (refl, refl, refl, refl)
 
 pub numbers_that_leave : (ran 1 ≡ false) × (ran 2 ≡ false) × (ran 3 ≡ false) × (ran 4 ≡ false)
 numbers_that_leave = (refl, refl, refl, refl)
+
+-- as many zeros as asked, and what stood beyond them
+pub two_of_three : ◌≡◌ {A = List ℕ} (cleared 0 2 (7 ∷ 8 ∷ 9 ∷ [])) (0 ∷ 0 ∷ 9 ∷ [])
+two_of_three = refl
 
 -- three numbers of one kind and four of the other for one window, and what lies beyond
 pub one_window : (cleared_ints 1 (pos 1 ∷ pos 2 ∷ pos 3 ∷ pos 4 ∷ []) ≡ pos 0 ∷ pos 0 ∷ pos 0 ∷ pos 4 ∷ [])

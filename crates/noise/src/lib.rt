@@ -1,8 +1,8 @@
 // The noise call: refusals, one pass or two, the answer, and work memory cleared.
 #![tactic(auto)]
 
-ghost use Rattle.std.specs.Prelude.{◌≡◌, length};
-ghost use Rattle.numbers.specs.Numbers.{number_of};
+ghost use Rattle.std.specs.Prelude.{◌≡◌, ◌*◌, length};
+ghost use Rattle.grid.specs.Step.{step_of};
 ghost use Rattle.noise.specs.Refusals.{short_of};
 ghost use Rattle.noise.specs.Answers.{ending_in, first_decides};
 ghost use Rattle.noise.specs.Call.{refused, measured, cleared_ints, cleared_floats, noise_of, left_ints, left_floats};
@@ -51,12 +51,12 @@ fn ending_in(p: Pass, rounds: u32, passes: u32) -> Answer
     }
 }
 
-// A refused call's answer: zeros beside the number.
-pub fn refuse(why: Number) -> Answer
-    ensures { result ≡ refused (number_of why) }
+// A refused call's answer: zeros beside the number. A `Number` would ask more of callers than any u32 does.
+pub fn refuse(number: u32) -> Answer
+    ensures { result ≡ refused number }
 {
     Answer {
-        number: u32::from(why),
+        number,
         sigma: 0.0,
         milli: 0,
         b0: 0,
@@ -69,34 +69,27 @@ pub fn refuse(why: Number) -> Answer
     }
 }
 
-// Whether the first pass, of step s, decides: it has a sigma, or no window was left out.
-fn first_decides(s: usize, p: Pass) -> bool
-    ensures { result ≡ first_decides s p }
+// Whether the first pass decides: it has a sigma, or its grid leaves no window out. The step is worked out only without a sigma.
+fn first_decides(grid: Grid, p: Pass) -> bool
+    ensures { result ≡ first_decides (step_of (grid.w * grid.h) grid.windows) p }
 {
-    p.sigma.is_ok() || s == 1
+    p.sigma.is_ok() || grid.step() == 1
 }
 
-// The first pass, and the second where the first gives no sigma and leaves windows out.
+// The first pass, and the second where the first gives no sigma and leaves windows out. Here and below image, sides and work
+// slices travel together because C lends them so.
 fn passes(img: &[u8], w: usize, h: usize, ints: &mut [i32], floats: &mut [f32], m: usize) -> Answer
     requires { Ready img.now w h m ints.old floats.old }
     ensures { (result ≡ measured img.now w h)
         × (ints.new ≡ work_ints img.now w h ints.old)
         × (floats.new ≡ work_floats img.now w h floats.old) }
 {
-    let grid = Grid {
-        w,
-        h,
-        windows: grid::WINDOWS,
-    };
+    let grid = Grid::first(w, h);
     let first = pass::run(img, grid, ints, floats);
-    if first_decides(grid.step(), first) {
+    if first_decides(grid, first) {
         return ending_in(first, first.rounds, 1);
     }
-    let dense = Grid {
-        w,
-        h,
-        windows: grid::DENSE,
-    };
+    let dense = Grid::dense(w, h);
     let second = pass::run(img, dense, ints, floats);
     ending_in(second, first.rounds + second.rounds, 2)
 }
@@ -116,8 +109,8 @@ pub fn measure(
         × (floats.new ≡ cleared_floats m floats.old) }
 {
     let answer = passes(img, w, h, ints, floats, m);
-    clear::clear(ints, sample::COLUMNS * m, 0);
-    clear::clear(floats, 2 * m + 2, 0.0);
+    ints[..sample::COLUMNS * m].fill(0);
+    floats[..2 * m + 2].fill(0.0);
     answer
 }
 
@@ -137,6 +130,6 @@ pub fn estimate_noise_sigma_u8(
 {
     match judge(img.len(), w, h, ints.len(), floats.len()) {
         Ok(m) => measure(img, w, h, ints, floats, m),
-        Err(why) => refuse(why),
+        Err(why) => refuse(u32::from(why)),
     }
 }

@@ -1,6 +1,6 @@
 -- Document 01's and 02's number of each reason, 0 standing for a figure.
-use Rattle.std.specs.Prelude.{◌≡◌, ℕ, ◌-◌, Result, Ok, Err, List, [], ◌∷◌, get_or, refl}
-use Rattle.std.proofs.Common.{sym, ◌∙◌, ap}
+use Rattle.std.specs.Prelude.{ℕ, ◌≡◌, Result, Ok, Err, MatchResult, List, [], ◌∷◌}
+use Rattle.numbers.specs.declared.UnknownNumber.{UnknownNumber}
 use Rattle.numbers.specs.declared.Number.{Number}
 use Rattle.numbers.specs.declared.Number.TheVariants.{SideAbove, OtherLength, SideBelow, ShortSlice, Few, NoBand, Thin, Far, Flat, Support, Outside}
 use Rattle.numbers.specs.declared.Number.TheVariants.{FloatRange, NotFinite, Knots, NotALid, ManyPixels, OtherMark, ShortRecord, BrokenRule}
@@ -35,6 +35,10 @@ abbrev pub number_in : {A : Type 0} → Result A Number → ℕ
 number_in (Ok x) = 0
 number_in (Err why) = number_of why
 
+-- r is the reason with the number, if there is one
+abbrev pub HasNumber : ℕ → Result Number UnknownNumber → Type 0
+HasNumber n r = MatchResult r (λ why. number_of why ≡ n) (λ _. (why : Number) → number_of why ≡ n → ⊥)
+
 -- all of them, in the order of their numbers
 abbrev pub all : List Number
 all =
@@ -42,31 +46,3 @@ all =
     ∷ Thin ∷ Far ∷ Flat ∷ Support ∷ Outside ∷ FloatRange
     ∷ NotFinite ∷ Knots ∷ NotALid ∷ ManyPixels ∷ OtherMark ∷ ShortRecord
     ∷ BrokenRule ∷ PgmHeader ∷ PgmMaximum ∷ PgmRaster ∷ []
-
-pub in_order : (why : Number) → get_or all (number_of why - 1) SideAbove ≡ why
-in_order SideAbove = refl
-in_order OtherLength = refl
-in_order SideBelow = refl
-in_order ShortSlice = refl
-in_order Few = refl
-in_order NoBand = refl
-in_order Thin = refl
-in_order Far = refl
-in_order Flat = refl
-in_order Support = refl
-in_order Outside = refl
-in_order FloatRange = refl
-in_order NotFinite = refl
-in_order Knots = refl
-in_order NotALid = refl
-in_order ManyPixels = refl
-in_order OtherMark = refl
-in_order ShortRecord = refl
-in_order BrokenRule = refl
-in_order PgmHeader = refl
-in_order PgmMaximum = refl
-in_order PgmRaster = refl
-
--- no two have the same number
-pub apart : (a b : Number) → number_of a ≡ number_of b → a ≡ b
-apart a b same = sym (in_order a) ∙ ap (λ n. get_or all (n - 1) SideAbove) same ∙ in_order b

@@ -45,17 +45,13 @@ fn noise_in(floats: &[f32], s: Sample) -> Noise
     requires { Room s floats.now }
     ensures { result ≡ noise (gates_in s floats.now) (squares_in s floats.now) (starts_by s) }
 {
-    let e1 = s.b0 + s.b1;
-    let e2 = e1 + s.b2;
-    let kept = e2 + s.b3;
+    let starts = s.starts();
+    let kept = starts[4];
     let all = Band {
         gate: &floats[..kept],
         op: &floats[kept + 1..kept + 1 + kept],
     };
-    joining::noise_sigma(Image {
-        all,
-        starts: [0, s.b0, e1, e2, kept],
-    })
+    joining::noise_sigma(Image { all, starts })
 }
 
 // Counts and noise as one.

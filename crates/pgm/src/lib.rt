@@ -31,7 +31,8 @@ struct Found {
     end: usize,
 }
 
-// Whether a whitespace byte stands at a place.
+// Whether a whitespace byte stands at a place. File and place stay apart, here and as far as field_at: the file is one, and each
+// call asks of another place.
 fn is_white_at(file: &[u8], at: usize) -> bool
     ensures { result ≡ is_white (get_or file.now at 0) }
 {
@@ -107,15 +108,13 @@ pub fn header(file: &[u8]) -> Option<Head>
     })
 }
 
-// The image in a file of `len` bytes, by its first bytes, or the first of 20, 21, 22 that applies. `pgmnoise` has these tests once
-// more: number 16 stands between them.
+// The image in a file of `len` bytes, by its first bytes, or the first of 20, 21, 22 that applies. `pgmnoise` has these tests
+// once more: number 16 stands between them.
 #[tactic(auto, unfolding(crate::specs::Read::front_read), using(crate::proofs::Heads::few_pixels))]
 pub fn read_front(front: &[u8], len: usize) -> Result<Image, Number>
     ensures { result ≡ front_read front.now len }
 {
-    let Some(head) = header(front) else {
-        return Err(Number::PgmHeader);
-    };
+    let head = header(front).ok_or(Number::PgmHeader)?;
     if head.maximum != 255 {
         return Err(Number::PgmMaximum);
     }

@@ -3,7 +3,7 @@
 #![tactic(auto)]
 
 fn main(rt: HostRuntime) {
-    let mut room = grey::input_room();
+    let mut room = [0; grey::INPUT_BYTES];
     let input = streams::read_input(
         &rt,
         "pgmnoise",

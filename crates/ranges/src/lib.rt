@@ -2,13 +2,12 @@
 #![tactic(auto)]
 
 ghost use Rattle.std.specs.Prelude.{◌≡◌, ◌≤◌};
-ghost use Rattle.ieee.specs.Order.{finite};
-ghost use Rattle.refine.specs.Covariance.{all_finite};
 ghost use Rattle.ranges.specs.Ranges.{within, up_to, all_within, both_within, sigma_range};
 
 use refine::PositionCovariance;
 
-// Whether x is of a magnitude of at most N.
+// Whether x is of a magnitude of at most N. Past the limit, here and in `up_to`, the cast may round N up and let through an x
+// beyond it.
 pub fn within<const N: u32>(x: f32) -> bool
     requires { N ≤ 16777216 }
     ensures { result ≡ within N x }
@@ -31,20 +30,7 @@ pub fn sigma_in_range(x: f32) -> bool
     x.is_nan() | within::<1000>(x)
 }
 
-// As `float::is_finite32` says it; compared with numbers, as the ranges are, the floats are tested four at a time.
-fn is_number(x: f32) -> bool
-    ensures { result ≡ finite x }
-{
-    (f32::MIN <= x) & (x <= f32::MAX)
-}
-
-// Entry by entry, here and in `all_within`: a test handed over as a closure would be no shorter, and proved by more.
-pub fn all_finite(c: PositionCovariance) -> bool
-    ensures { result ≡ all_finite c }
-{
-    is_number(c.xx) & is_number(c.xy) & is_number(c.yy)
-}
-
+// Entry by entry: a test handed over as a closure would be no shorter, and proved by more.
 pub fn all_within(c: PositionCovariance) -> bool
     ensures { result ≡ all_within 1000000 c }
 {

@@ -1,2 +1,3 @@
 -- Laws on sentences.
 pub mod Short
+pub mod Found

@@ -11,7 +11,8 @@ use Rattle.std.specs.Prelude.{Option, Some, None}
 use Rattle.laws.proofs.Choice.{cond_both}
 use Rattle.numbers.specs.declared.Number.{Number}
 use Rattle.numbers.specs.declared.Number.TheVariants.{SideAbove}
-use Rattle.numbers.specs.Numbers.{number_of, all, in_order}
+use Rattle.numbers.specs.Numbers.{number_of, all}
+use Rattle.numbers.proofs.Apart.{in_order}
 use Rattle.text.specs.Text.{as_bytes}
 use Rattle.reasons.specs.Reasons.{reason_bytes, sentence_of, reason_at, told_by, reason_of}
 

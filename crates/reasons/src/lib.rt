@@ -2,36 +2,10 @@
 #![tactic(auto)]
 
 ghost use Rattle.std.specs.Prelude.{◌≡◌, ◌+◌, ◌≤◌, ◌++◌, length};
-ghost use Rattle.reasons.specs.Reasons.{reason_bytes, sentence_of, reason_at, reason_of, numbered_bytes, numbered_of, no_figure, remark_by};
+ghost use Rattle.reasons.specs.Reasons.{reason_bytes, sentence_of, reason_of, numbered_bytes, numbered_of, no_figure, remark_by};
 
 use arrayvec::ArrayString;
 use numbers::Number;
-
-// All of them, in the order of their numbers.
-const ALL: [Number; 22] = [
-    Number::SideAbove,
-    Number::OtherLength,
-    Number::SideBelow,
-    Number::ShortSlice,
-    Number::Few,
-    Number::NoBand,
-    Number::Thin,
-    Number::Far,
-    Number::Flat,
-    Number::Support,
-    Number::Outside,
-    Number::FloatRange,
-    Number::NotFinite,
-    Number::Knots,
-    Number::NotALid,
-    Number::ManyPixels,
-    Number::OtherMark,
-    Number::ShortRecord,
-    Number::BrokenRule,
-    Number::PgmHeader,
-    Number::PgmMaximum,
-    Number::PgmRaster,
-];
 
 // Why there is no figure, in a sentence for a person.
 pub fn sentence(why: Number) -> &'static str
@@ -67,28 +41,21 @@ pub fn sentence(why: Number) -> &'static str
     }
 }
 
-// The reason that has this number, if there is one.
-#[tactic(auto, unfolding(crate::specs::Reasons::reason_at))]
-pub fn reason(number: u32) -> Option<Number>
-    ensures { result ≡ reason_at number }
-{
-    ALL.iter().copied().find(|why| u32::from(*why) == number)
-}
-
 // What a number says: its reason's sentence, of 0 that there is a figure, of any other that it is none.
-#[tactic(auto, unfolding(crate::specs::Reasons::reason_of))]
+// The number is as the answer has it, which C reads.
+#[tactic(auto, using(crate::proofs::Found::found, crate::proofs::Found::missing))]
 pub fn told(number: u32) -> &'static str
     ensures value { result.now ≡ reason_of number }
     ensures short { length result.now ≤ reason_bytes }
 {
-    match reason(number) {
-        Some(why) => sentence(why),
-        None if number == 0 => "there is a figure",
-        None => "no such number",
+    match Number::try_from(number) {
+        Ok(why) => sentence(why),
+        Err(_) if number == 0 => "there is a figure",
+        Err(_) => "no such number",
     }
 }
 
-// Appends `number N: SENTENCE` and a line's end.
+// Appends `number N: SENTENCE` and a line's end. N too is as the answer has it.
 #[tactic(auto, unfolding(crate::specs::Reasons::numbered_of))]
 pub fn push_numbered<const N: usize>(text: &mut ArrayString<N>, number: u32)
     requires { length text.old.bytes + numbered_bytes ≤ N }
@@ -103,6 +70,7 @@ pub fn push_numbered<const N: usize>(text: &mut ArrayString<N>, number: u32)
 }
 
 // What a program says of a number on standard error: nothing beside a figure, else `before`, then its name and why there is none.
+// The number is as the answer has it, where 0 is a figure.
 #[tactic(auto, unfolding(crate::specs::Reasons::remark_by))]
 pub fn remark<const N: usize>(before: &str, program: &str, number: u32) -> ArrayString<N>
     requires { length before.now + length program.now + length no_figure + numbered_bytes ≤ N }

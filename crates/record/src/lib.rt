@@ -32,6 +32,7 @@ pub struct Record {
 
 // ---- the rule
 
+// Whether an answer with this number is stored. A number: a record's bytes hold any, until the rule judges it.
 #[tactic(auto, unfolding(crate::specs::Rule::stored_answer))]
 fn stored_answer(a: u32) -> bool
     ensures { result ≡ stored_answer a }
@@ -39,6 +40,7 @@ fn stored_answer(a: u32) -> bool
     matches!(a, 0 | 5 | 6 | 7)
 }
 
+// Whether sigma's bits go with the number and the windows that are kept. A number, as in `stored_answer`.
 #[tactic(auto, unfolding(crate::specs::Rule::sigma_taken))]
 fn sigma_taken(a: u32, bits: u32, kept: u64) -> bool
     ensures { result ≡ sigma_taken a bits kept }
@@ -55,17 +57,7 @@ fn counts_taken(w: usize, h: usize, n: u64) -> bool
     requires { Sides w h }
     ensures { result ≡ counts_taken w h n }
 {
-    let first = Grid {
-        w,
-        h,
-        windows: grid::WINDOWS,
-    };
-    let second = Grid {
-        w,
-        h,
-        windows: grid::DENSE,
-    };
-    n == first.window_count() as u64 || n == second.window_count() as u64
+    n == Grid::first(w, h).window_count() as u64 || n == Grid::dense(w, h).window_count() as u64
 }
 
 impl Record {
@@ -116,7 +108,7 @@ fn marked(bytes: &[u8]) -> bool
     matches!(bytes, [0x4e, 0x46, ..])
 }
 
-// The record behind the mark, not judged.
+// The record behind the mark, not judged. By `get32`: fields of four, two and one bytes.
 fn record_in(bytes: &[u8]) -> Record
     requires { 35 ≤ length bytes.now }
     ensures { result ≡ record_in form_nf bytes.now }
@@ -159,7 +151,7 @@ pub fn read(bytes: &[u8]) -> Result<Record, Number>
 const FIELD_BYTES: [usize; 10] = [4, 2, 2, 1, 4, 4, 4, 4, 4, 4];
 
 impl Record {
-    // The bytes of a record, not judged: the mark, then the fields.
+    // The bytes of a record, not judged: the mark, then the fields. By `put`: they take four, two and one bytes.
     fn bytes(self) -> [u8; 35]
         ensures { result ≡ bytes_as form_nf self }
     {

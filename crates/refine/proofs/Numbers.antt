@@ -5,7 +5,8 @@ use native.Mathlib.Omega.{arith}
 use lib.ListN.{get_or}
 use Rattle.numbers.specs.declared.Number.{Number}
 use Rattle.numbers.specs.declared.Number.TheVariants.{SideAbove}
-use Rattle.numbers.specs.Numbers.{number_of, all, in_order}
+use Rattle.numbers.specs.Numbers.{number_of, all}
+use Rattle.numbers.proofs.Apart.{in_order}
 
 pub not_0 : (why : Number) → number_of why ≡ 0 → ⊥
 not_0 why h =

@@ -1,4 +1,4 @@
-// Square roots.
+// Square roots, which document 01 names as our own.
 #![tactic(auto)]
 
 ghost use Rattle.std.specs.Prelude.{◌≡◌, ◌*◌, ◌/◌, ◌%◌, ◌^◌, ◌<◌, ◌≤◌};
@@ -43,7 +43,7 @@ fn guess(b: u64) -> u64
     let y2 = y1 * (1.5 - h * y1 * y1);
     let y3 = y2 * (1.5 - h * y2 * y2);
     let g = x * y3;
-    if g != g {
+    if g.is_nan() {
         return 0x80_0000;
     }
     0x80_0000 + (f64::to_bits(g) % 0x10_0000_0000_0000 + 0x1000_0000) / 0x2000_0000 % 0x80_0000
@@ -77,7 +77,7 @@ fn scaled(a: u64) -> Parts
     let field = a / 0x10_0000_0000_0000;
     let low = a % 0x10_0000_0000_0000;
     if field == 0 {
-        let up = (low.leading_zeros() as u64) - 11;
+        let up = u64::from(low.leading_zeros()) - 11;
         Parts {
             digits: low * convert::pow2(up),
             e: 52 - up,
@@ -95,14 +95,14 @@ fn scaled(a: u64) -> Parts
 pub fn sqrt64(x: f64) -> f64
     ensures { result ≡ sqrt binary64 x }
 {
-    if x != x {
+    if x.is_nan() {
         return x;
     }
     if x == 0.0 {
         return x;
     }
     if x < 0.0 {
-        return 0.0 / 0.0;
+        return f64::NAN;
     }
     let b = f64::to_bits(x);
     if b >= 0x7ff0_0000_0000_0000 {
@@ -114,20 +114,21 @@ pub fn sqrt64(x: f64) -> f64
     f64::from_bits((h + 485) * 0x10_0000_0000_0000 + root(m, 53))
 }
 
-// f32::sqrt, as sqrt64 of x as an f64, with 24 digits. One generic call for both would be no plainer: this one begins with a guess.
+// f32::sqrt, as sqrt64 of x as an f64, with 24 digits. One generic call for both would be no plainer: this one begins with a
+// guess.
 pub fn sqrt32(x: f32) -> f32
     ensures { result ≡ sqrt binary32 x }
 {
-    if x != x {
+    if x.is_nan() {
         return x;
     }
     if x == 0.0 {
         return x;
     }
     if x < 0.0 {
-        return 0.0 / 0.0;
+        return f32::NAN;
     }
-    let b = f64::to_bits(x as f64);
+    let b = f64::to_bits(f64::from(x));
     if b >= 0x7ff0_0000_0000_0000 {
         return x;
     }

@@ -60,7 +60,7 @@ start_kept : (fs : List WindowStats) → start_of fs rail ≡ kept_of fs
 start_kept fs = omega (arith, kept_sum fs)
 
 -- by the counts of a sample
-pub starts : (s : Sample) (fs : List WindowStats) → Counts s fs → (b : ℕ) → b < rail → get_or (0 ∷ s.b0 ∷ (s.b0 + s.b1) ∷ (s.b0 + s.b1 + s.b2) ∷ []) b 0 ≡ start_of fs b
+pub starts : (s : Sample) (fs : List WindowStats) → Counts s fs → (b : ℕ) → b < rail → get_or (0 ∷ s.b0 ∷ (s.b0 + s.b1) ∷ (s.b0 + s.b1 + s.b2) ∷ (s.b0 + s.b1 + s.b2 + s.b3) ∷ []) b 0 ≡ start_of fs b
 starts s fs n zero h = refl
 starts s fs n (suc zero) h = omega (arith, n.c0)
 starts s fs n (suc (suc zero)) h = omega (arith, n.c0, n.c1)
@@ -115,7 +115,7 @@ module _ {φ : WindowStats → Float} {a t : ℕ} {l : List ℤ} {out : List Flo
 
   -- a window of band b: its place is stored, and the band's next place moves on
   pub half_hit : {v : Float} (b : ℕ) → b < rail → k < t → band_of (get_or l k (pos 0)) ≡ b → v ≡ φ (figure_in t l k)
-      → length next ≡ rail → a + get_or next b 0 < length out → Half φ a t l (set out (a + get_or next b 0) v) (set next b (get_or next b 0 + 1)) (k + 1)
+      → rail ≤ length next → a + get_or next b 0 < length out → Half φ a t l (set out (a + get_or next b 0) v) (set next b (get_or next b 0 + 1)) (k + 1)
   half_hit {v} b h g e q four room = record { each = λ c w. go c w (eqb c b) refl }
     where
       over : (a n : ℕ) → a + n + 1 ≡ a + (n + 1)
@@ -198,14 +198,14 @@ half_start φ a t l out next e =
 
 pub record Scattering (t : ℕ) (l : List ℤ) (old new : List Float) (next : List ℕ) (k : ℕ) : Type 0 where
   pub low : k ≤ t
-  pub four : length next ≡ rail
+  pub four : rail ≤ length next
   pub long : length new ≡ length old
   pub gates : Half gate32 0 t l new next k
   pub squares : Half square32 (kept_of (figures_in t l) + 1) t l new next k
   pub spare : take 1 (drop (kept_of (figures_in t l)) new) ≡ take 1 (drop (kept_of (figures_in t l)) old)
   pub beyond : drop (2 * kept_of (figures_in t l) + 1) new ≡ drop (2 * kept_of (figures_in t l) + 1) old
 
-pub scatter_start : (t : ℕ) (l : List ℤ) (old : List Float) (next : List ℕ) → length next ≡ rail
+pub scatter_start : (t : ℕ) (l : List ℤ) (old : List Float) (next : List ℕ) → rail ≤ length next
     → ((b : ℕ) → b < rail → get_or next b 0 ≡ start_of (figures_in t l) b) → Scattering t l old old next 0
 scatter_start t l old next f e =
     record { low = omega arith; four = f; long = refl; gates = half_start gate32 0 t l old next e; squares = half_start square32 (kept_of (figures_in t l) + 1) t l old next e; spare = refl; beyond = refl }
@@ -247,7 +247,7 @@ module _ {t : ℕ} {l : List ℤ} {old new : List Float} {next : List ℕ} {k : 
   scatter_hit {v} {u} b h e room p q =
       record {
         low = omega arith;
-        four = length-set next b (get_or next b 0 + 1) ∙ i.four;
+        four = omega (arith, length-set next b (get_or next b 0 + 1), i.four);
         long = length-set (set new n v) (kept + 1 + n) u ∙ length-set new n v ∙ i.long;
         gates = half_keep
             (subst (λ (m : ℕ). Half gate32 0 t l (set new m v) (set next b (n + 1)) (k + 1)) (none n) (half_hit i.gates b h g e p i.four (omega (arith, i.long, place))))

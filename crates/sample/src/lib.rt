@@ -27,15 +27,14 @@ fn lay(ints: &[i32], t: usize, k: usize, floats: &mut [f32], i: usize, half: usi
     floats[half + i] = o * o;
 }
 
-// The kept windows into floats, band after band: gates, one spare place, squared outputs.
+// The kept windows into floats, band after band: gates, one spare place, squared outputs. It goes by place, which `lay` takes:
+// an `enumerate` is no plainer, and by it, tried, each answer on a turn is longer.
 pub fn scatter(ints: &[i32], t: usize, s: Sample, floats: &mut [f32])
     requires { Layable t ints.now s floats.old }
     ensures { floats.new ≡ laid_in (figures_in t ints.now) floats.old }
 {
-    let e1 = s.b0 + s.b1;
-    let e2 = e1 + s.b2;
-    let kept = e2 + s.b3;
-    let mut next = [0, s.b0, e1, e2];
+    let mut next = s.starts();
+    let kept = next[4];
     for k in 0..t {
         if let Some(b) = band::band(ints[k]) {
             let i = next[b];

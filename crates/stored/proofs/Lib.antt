@@ -1,3 +1,2 @@
 -- Laws of numbers and patterns that the proofs cite.
 pub mod Hex
-pub mod Patterns

@@ -6,6 +6,7 @@ ghost use Rattle.stored.specs.Floats.{single, double, signed, flag, place, helpe
 
 use crate::UnknownLetter;
 use std::fmt;
+use std::num::{f32_from_bits_with_nan, f64_from_bits_with_nan, f64_to_bits_with_nan};
 
 // What a column's number stands for.
 pub trait Column: Sized {
@@ -21,10 +22,7 @@ impl Column for f32 {
 
     fn of(a: u64) -> f32 {
         let b = (a % 0x1_0000_0000) as u32;
-        if b % 0x8000_0000 > 0x7f80_0000 {
-            return 0.0 / 0.0;
-        }
-        f32::from_bits(b)
+        f32_from_bits_with_nan(b)
     }
 }
 
@@ -33,10 +31,7 @@ impl Column for f64 {
     ghost value = { double };
 
     fn of(a: u64) -> f64 {
-        if a % 0x8000_0000_0000_0000 > 0x7ff0_0000_0000_0000 {
-            return 0.0 / 0.0;
-        }
-        f64::from_bits(a)
+        f64_from_bits_with_nan(a)
     }
 }
 
@@ -73,10 +68,7 @@ impl Pattern for f64 {
     ghost pattern = { to_bits binary64 };
 
     fn pattern(self) -> u64 {
-        if self != self {
-            return 0x7ff8_0000_0000_0000;
-        }
-        f64::to_bits(self)
+        f64_to_bits_with_nan(self)
     }
 }
 
@@ -189,7 +181,8 @@ impl fmt::Display for Helper {
     }
 }
 
-// What the helper with this letter answers, as a pattern; 0 where there is none.
+// What the helper with this letter, which is the lists' own, answers, as a pattern; 0 where there is none, and no Option, since
+// `agrees` compares it with a stored number.
 #[tactic(auto, unfolding(crate::specs::Floats::helper_answer, crate::specs::Floats::float_answer))]
 pub fn answer(letter: u8, a: u64, b: u64) -> u64
     ensures { result ≡ float_answer letter a b }

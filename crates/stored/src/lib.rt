@@ -1,9 +1,9 @@
 // Lists of stored answers, read, judged and replayed.
 //
 // A list is text. Each line has a letter that says which call it is, columns of sixteen hexadecimal digits, each after a blank,
-// and a line end. All lines of a list have the same number of columns. A line with any other byte cannot be read, and never agrees.
-// A capital letter stands for the same call as the small one: lists keep answers there that were altered, to show that a wrong one
-// is noticed.
+// and a line end. All lines of a list have the same number of columns. A line with any other byte cannot be read, and never
+// agrees. A capital letter stands for the same call as the small one: lists keep answers there that were altered, to show that a
+// wrong one is noticed.
 #![tactic(auto)]
 
 pub mod floats;
@@ -51,7 +51,7 @@ fn is_letter(c: u8) -> bool
     c.is_ascii_alphabetic()
 }
 
-// What the digit c stands for.
+// What the digit c stands for. By hand: `written` speaks of any byte, and `to_digit` has none for one that is no digit.
 #[tactic(auto, unfolding(crate::specs::Lines::digit_value))]
 fn digit(c: u8) -> u64
     ensures value { result ≡ digit_value c }
@@ -61,15 +61,15 @@ fn digit(c: u8) -> u64
     if d < 58 { d % 16 } else { (d + 9) % 16 }
 }
 
-// The number that the sixteen digits from place at on write.
+// The number that the sixteen digits from place at on write. Text and place stay apart: each call has another place.
 #[tactic(auto, unfolding(crate::specs::Lines::written))]
 pub fn column(text: &[u8], at: usize) -> u64
     requires { at + 16 ≤ length text.now }
     ensures { result ≡ written text.now at 16 }
 {
     let mut n: u64 = 0;
-    for k in 0..16 {
-        n = n * 16 + digit(text[at + k]);
+    for c in &text[at..at + 16] {
+        n = n * 16 + digit(*c);
     }
     n
 }
@@ -85,6 +85,10 @@ impl<'a, const N: usize> Iterator for Lines<'a, N> {
     type Item = Line<'a, N>;
 
     ghost remaining = { λ s. at_most (lines_of s.list.text.now N - s.next) };
+
+    ghost next_gives = { λ s r t. (t.list ≡ s.list) × MatchOption r
+        ((lines_of s.list.text.now N ≤ s.next) × (t.next ≡ s.next))
+        (λ line. (line.list ≡ s.list) × (line.i ≡ s.next) × (t.next ≡ s.next + 1)) };
 
     fn next(&mut self) -> Option<Line<'a, N>> {
         let line = self.list.line(self.next)?;
@@ -122,7 +126,7 @@ impl<'a, const N: usize> List<'a, N> {
         self.text.len() / self.width()
     }
 
-    // Line i, if there is one.
+    // Line i, if there is one. An `if`: the closure of a `then` is not told that i is below the length, and a Line holds that.
     pub fn line(&self, i: usize) -> Option<Line<'a, N>>
         ensures { MatchOption result (lines_of self.now.text.now N ≤ i) (λ line. (line.list ≡ self.now) × (line.i ≡ i)) }
     {
@@ -134,7 +138,9 @@ impl<'a, const N: usize> List<'a, N> {
     }
 
     // All of them, in order.
-    fn lines(&self) -> Lines<'a, N> {
+    fn lines(&self) -> Lines<'a, N>
+        ensures { (result.list ≡ self.now) × (result.next ≡ 0) }
+    {
         Lines {
             list: *self,
             next: 0,
@@ -158,14 +164,14 @@ impl<'a, const N: usize> List<'a, N> {
         is_digit(c)
     }
 
-    // How many lines have the letter, which is the lists' own, and agree, or do not, as `good` says.
+    // How many lines have the letter, which is the lists' own, and agree, or do not, as `good` says. A loop: the checker refuses
+    // a `filter` over lines, which have a lifetime.
     #[tactic(auto, unfolding(crate::specs::Lines::hits, crate::specs::Lines::hit_count))]
     pub fn count(&self, letter: u8, good: bool) -> usize
         ensures { result ≡ hit_count self.now.text.now N letter good }
     {
         let mut n = 0;
-        for i in 0..self.len() {
-            let line = Line { list: *self, i };
+        for line in self.lines() {
             if line.hits(letter, good) {
                 n += 1;
             }
@@ -183,6 +189,7 @@ impl<'a, const N: usize> List<'a, N> {
         println!(rt; "")
     }
 
+    // The letter is the lists' own, small or capital.
     fn report_letter(&self, rt: &impl Print, letter: u8) -> io::Result<()> {
         let agree = self.count(letter, true);
         let differ = self.count(letter, false);
@@ -208,15 +215,18 @@ impl<'a, const N: usize> Line<'a, N> {
         self.i * width
     }
 
-    // Whether it can be read.
+    // Whether it can be read. A loop: the closure of an `all` would need a clause that says again what `is_placed` does.
     #[tactic(auto, unfolding(crate::specs::Lines::readable))]
     fn is_readable(&self) -> bool
         ensures { result ≡ is_line self.now.list.text.now N (self.now.i * line_bytes N) }
     {
         let at = self.start();
         let mut good = true;
-        for k in 0..self.list.width() {
-            good = good & self.list.is_placed(k, self.list.text[at + k]);
+        for (k, c) in self.list.text[at..at + self.list.width()]
+            .iter()
+            .enumerate()
+        {
+            good = good & self.list.is_placed(k, *c);
         }
         good
     }
@@ -226,11 +236,7 @@ impl<'a, const N: usize> Line<'a, N> {
     pub fn letter(&self) -> Option<u8>
         ensures { result ≡ letter_at self.now.list.text.now N self.now.i }
     {
-        if self.is_readable() {
-            Some(self.list.text[self.start()])
-        } else {
-            None
-        }
+        self.is_readable().then_some(self.list.text[self.start()])
     }
 
     // The call that its letter stands for, if it can be read and there is one.
@@ -252,8 +258,8 @@ impl<'a, const N: usize> Line<'a, N> {
         ensures { (j : ℕ) → j < N → number_at self.now.list.text.now N self.now.i j ≡ Some (slice_index result j) }
     {
         let mut numbers = [0; N];
-        for j in 0..N {
-            numbers[j] = self.number(j);
+        for (j, number) in numbers.iter_mut().enumerate() {
+            *number = self.number(j);
         }
         numbers
     }
@@ -269,7 +275,7 @@ impl<'a, const N: usize> Line<'a, N> {
                 == self.number(2)
     }
 
-    // Whether it has the letter, and agrees or not as `good` says.
+    // Whether it has the letter, which is the lists' own, and agrees or not as `good` says.
     fn hits(&self, letter: u8, good: bool) -> bool
         ensures { result ≡ hit_at self.now.list.text.now N (self.now.i * line_bytes N) letter good }
     {
@@ -310,13 +316,35 @@ pub fn bytes_in(columns: [u64; 5]) -> [u8; 40]
     ensures { (k : ℕ) → k < 40 → slice_index result k ≡ column_byte columns k }
 {
     let mut bytes = [0; 40];
-    for k in 0..40 {
-        bytes[k] = columns[k / 8].to_be_bytes()[k % 8];
+    for (k, byte) in bytes.iter_mut().enumerate() {
+        *byte = columns[k / 8].to_be_bytes()[k % 8];
     }
     bytes
 }
 
-// Writes the name of a call and the number that it answers.
+// Makes a call on the first m elements of a room, and writes its name, the number that it answers and, by `show`, the whole room.
+// Where the room is shorter it writes nothing.
+pub fn report_call<T, C, S>(
+    rt: &impl Print,
+    name: &str,
+    room: &mut [T],
+    m: usize,
+    call: C,
+    show: S,
+) -> io::Result<()>
+where
+    C: FnOnce(&mut [T]) -> u32,
+    S: FnOnce(&[T]) -> io::Result<()>,
+    requires { C.IsAlwaysCallable call × S.IsAlwaysCallable show }
+{
+    let Some(lent) = room.get_mut(..m) else {
+        return Ok(());
+    };
+    report_answer(rt, name, call(lent))?;
+    show(room)
+}
+
+// Writes the name of a call and the number that it answers, as C reads it: the calls replayed here are the exported ones.
 pub fn report_answer(rt: &impl Print, name: &str, number: u32) -> io::Result<()> {
     print!(rt; "{name} {number}")
 }

@@ -5,6 +5,7 @@
 use compare::pixel_gradients::{
     vuzgari_compare_add, vuzgari_compare_covariance, vuzgari_compare_reset,
 };
+use gradients::PixelGradients;
 use std::io;
 use stored::floats::Column;
 use stored::{Calls, UnknownLetter};
@@ -35,25 +36,20 @@ impl TryFrom<u8> for Call {
     }
 }
 
-// The accumulator's state, by the parts that the exported calls lend.
+// The accumulator's state, which the exported calls lend by its parts.
 #[derive(Drop)]
-struct State {
-    origin: [i32; 2],
-    side: usize,
-    gx: [f32; 1024],
-    gy: [f32; 1024],
-}
+struct State(PixelGradients);
 
 impl Calls<4> for State {
     type Call = Call;
 
     fn run(&mut self, rt: &impl Print, call: Call, columns: [u64; 4]) -> io::Result<()> {
-        let State {
+        let PixelGradients {
             origin,
             side,
             gx,
             gy,
-        } = self;
+        } = &mut self.0;
         let [a, b, c, d] = columns;
         let x = i32::of(a);
         let y = i32::of(b);
@@ -84,11 +80,5 @@ impl Calls<4> for State {
 }
 
 fn main(rt: HostRuntime) -> io::Result<()> {
-    let mut state = State {
-        origin: [0; 2],
-        side: 0,
-        gx: [0.0; 1024],
-        gy: [0.0; 1024],
-    };
-    stored::replay(&rt, &mut state)
+    stored::replay(&rt, &mut State(PixelGradients::default()))
 }

@@ -5,6 +5,7 @@
 use compare::covariance_model::{
     vuzgari_compare_at, vuzgari_compare_model, vuzgari_compare_noise_at, vuzgari_compare_total,
 };
+use model::SystematicModel;
 use std::io;
 use stored::floats::Column;
 use stored::{Calls, UnknownLetter};
@@ -41,66 +42,63 @@ impl TryFrom<u8> for Call {
     }
 }
 
-// The systematic model: so many of the knots, and the floor. The exported calls take the knots as three lists.
+// The systematic model, which the exported calls take by its fields.
 #[derive(Drop)]
-struct Knots {
-    widths: [f32; 16],
-    gains: [f32; 16],
-    residuals: [f32; 16],
-    count: usize,
-    floor: f32,
-}
+struct Systematic(SystematicModel);
 
-impl Knots {
-    fn start(count: usize, floor: f32) -> Knots {
-        Knots {
+impl Systematic {
+    // As many knots, all zeros, and the floor.
+    fn start(count: usize, floor: f32) -> Systematic {
+        Systematic(SystematicModel {
             widths: [0.0; 16],
             gains: [0.0; 16],
             residuals: [0.0; 16],
             count,
             floor,
-        }
+        })
     }
 
     fn set(&mut self, k: usize, width: f32, gain: f32, residual: f32) {
         if k < 16 {
-            self.widths[k] = width;
-            self.gains[k] = gain;
-            self.residuals[k] = residual;
+            self.0.widths[k] = width;
+            self.0.gains[k] = gain;
+            self.0.residuals[k] = residual;
         }
     }
 
     // Gain and residual at the width, if it is known.
-    fn at(&self, rt: &impl Print, known: bool, width: f32) -> io::Result<()> {
+    fn at(&self, rt: &impl Print, width: Option<f32>) -> io::Result<()> {
+        let s = &self.0;
         let mut out = [0.0; 2];
         let number = vuzgari_compare_at(
-            &self.widths,
-            &self.gains,
-            &self.residuals,
-            self.count,
-            self.floor,
-            known,
-            width,
+            &s.widths,
+            &s.gains,
+            &s.residuals,
+            s.count,
+            s.floor,
+            width.is_some(),
+            width.unwrap_or(0.0),
             &mut out,
         );
         stored::report_answer(rt, "at", number)?;
         stored::report_floats(rt, &out)
     }
 
-    // The model of the width, if it is known, the grid, the noise part and the offset.
-    fn model(&self, rt: &impl Print, known: bool, columns: [f32; 9]) -> io::Result<()> {
-        let [_, width, grid, a, b, c, x, y, _] = columns;
+    // The model of the width, if it is known, and of the grid, the noise part and the offset in the columns.
+    fn model(&self, rt: &impl Print, width: Option<f32>, columns: [f32; 9]) -> io::Result<()> {
+        let [_, _, grid, a, b, c, x, y, _] = columns;
+        let s = &self.0;
         let mut out = [0.0; 8];
         let number = vuzgari_compare_model(
-            &self.widths,
-            &self.gains,
-            &self.residuals,
-            self.count,
-            self.floor,
+            &s.widths,
+            &s.gains,
+            &s.residuals,
+            s.count,
+            s.floor,
             &[a, b, c],
             &[x, y],
-            known,
-            width,
+            width.is_some(),
+            width.unwrap_or(0.0),
             grid,
             &mut out,
         );
@@ -122,24 +120,24 @@ where
     stored::report_floats(rt, &out)
 }
 
-impl Calls<9> for Knots {
+impl Calls<9> for Systematic {
     type Call = Call;
 
     fn run(&mut self, rt: &impl Print, call: Call, columns: [u64; 9]) -> io::Result<()> {
         let first = columns[0];
-        let known = first != 0;
         let floats = columns.map(f32::of);
+        let width = (first != 0).then_some(floats[1]);
         match call {
             Call::Start => {
-                *self = Knots::start(first as usize, floats[1]);
+                *self = Systematic::start(first as usize, floats[1]);
                 return Ok(());
             }
             Call::Knot => {
                 self.set((first % 16) as usize, floats[1], floats[2], floats[3]);
                 return Ok(());
             }
-            Call::At => self.at(rt, known, floats[1])?,
-            Call::Model => self.model(rt, known, floats)?,
+            Call::At => self.at(rt, width)?,
+            Call::Model => self.model(rt, width, floats)?,
             Call::NoiseAt => level(rt, "noise_at", floats, vuzgari_compare_noise_at)?,
             Call::Total => level(rt, "total", floats, vuzgari_compare_total)?,
         }
@@ -148,5 +146,5 @@ impl Calls<9> for Knots {
 }
 
 fn main(rt: HostRuntime) -> io::Result<()> {
-    stored::replay(&rt, &mut Knots::start(0, 0.0))
+    stored::replay(&rt, &mut Systematic::start(0, 0.0))
 }

@@ -30,13 +30,14 @@ impl TryFrom<u8> for Call {
 
 // Reads a header at the front into the first m of 6 fields, and reports all 6.
 fn header(rt: &impl Print, front: &[u8], m: usize) -> io::Result<()> {
-    let mut fields = [999; 6];
-    let Some(lent) = fields.get_mut(..m) else {
-        return Ok(());
-    };
-    let number = vuzgari::vuzgari_pgm_header(front, lent);
-    stored::report_answer(rt, "header", number)?;
-    stored::report_fields(rt, &fields)
+    stored::report_call(
+        rt,
+        "header",
+        &mut [999; 6],
+        m,
+        |lent| vuzgari::vuzgari_pgm_header(front, lent),
+        |fields| stored::report_fields(rt, fields),
+    )
 }
 
 // Judges a file of `len` bytes by its front.

@@ -32,24 +32,26 @@ fn write(
     w: usize,
     h: usize,
 ) -> io::Result<()> {
-    let mut out = [0xee; 40];
-    let Some(lent) = out.get_mut(..m) else {
-        return Ok(());
-    };
-    let number = vuzgari::vuzgari_record_write(shot, w, h, answer, lent);
-    stored::report_answer(rt, "write", number)?;
-    stored::report_bytes(rt, &out)
+    stored::report_call(
+        rt,
+        "write",
+        &mut [0xee; 40],
+        m,
+        |lent| vuzgari::vuzgari_record_write(shot, w, h, answer, lent),
+        |out| stored::report_bytes(rt, out),
+    )
 }
 
 // Reads from the bytes into the first m of 12 fields, and reports all 12.
 fn read(rt: &impl Print, bytes: &[u8], m: usize) -> io::Result<()> {
-    let mut fields = [999; 12];
-    let Some(lent) = fields.get_mut(..m) else {
-        return Ok(());
-    };
-    let number = vuzgari::vuzgari_record_read(bytes, lent);
-    stored::report_answer(rt, "read", number)?;
-    stored::report_fields(rt, &fields)
+    stored::report_call(
+        rt,
+        "read",
+        &mut [999; 12],
+        m,
+        |lent| vuzgari::vuzgari_record_read(bytes, lent),
+        |fields| stored::report_fields(rt, fields),
+    )
 }
 
 // The calls keep nothing from line to line.

@@ -2,7 +2,7 @@
 // answers on standard output. `oracle/compare --store twins` makes both anew.
 #![tactic(auto)]
 
-ghost use Rattle.std.specs.Prelude.{◌<◌, ◌≤◌, ◌^◌};
+ghost use Rattle.std.specs.Prelude.{◌<◌, ◌≤◌, ◌^◌, slice_index};
 
 use compare::bands::{
     vuzgari_compare_noise_number, vuzgari_compare_noise_rounds, vuzgari_compare_noise_sigma,
@@ -133,17 +133,15 @@ impl Image {
     }
 }
 
-// Windows in four bands, each with its gate and its squared output, which the exported calls take as two lists. The bands end
-// before `first`, `second`, `third` and `end`.
+// Windows in four bands, each with its gate and its squared output, which the exported calls take as two lists; and where each
+// band ends.
 #[derive(Drop)]
 struct Windows {
     gate: [f32; 4096],
     square: [f32; 4096],
-    first: usize,
-    second: usize,
-    third: usize,
-    end: usize,
-    ghost in_order: { (first ≤ second) × (second ≤ third) × (third ≤ end) × (end ≤ 4096) },
+    ends: [usize; 4],
+    ghost in_order: { (slice_index ends 0 ≤ slice_index ends 1) × (slice_index ends 1 ≤ slice_index ends 2)
+        × (slice_index ends 2 ≤ slice_index ends 3) × (slice_index ends 3 ≤ 4096) },
 }
 
 impl Windows {
@@ -151,40 +149,25 @@ impl Windows {
         Windows {
             gate: [0.0; 4096],
             square: [0.0; 4096],
-            first: 0,
-            second: 0,
-            third: 0,
-            end: 0,
+            ends: [0; 4],
         }
     }
 
-    // So many more windows with this gate and squared output, as far as there is room. The band, and those after it, end behind them.
-    fn add(&mut self, band: u64, count: usize, gate: f32, square: f32) {
-        let start = self.end;
+    // So many more windows with this gate and squared output, as far as there is room. The band, and those after it, end behind
+    // them.
+    fn add(&mut self, band: usize, count: usize, gate: f32, square: f32) {
+        let start = self.ends[3];
         let end = start.saturating_add(count).min(4096);
         self.gate[start..end].fill(gate);
         self.square[start..end].fill(square);
-        self.end = end;
-        match band {
-            0 => {
-                self.first = end;
-                self.second = end;
-                self.third = end;
-            }
-            1 => {
-                self.second = end;
-                self.third = end;
-            }
-            2 => self.third = end,
-            _ => {}
-        }
+        self.ends[band.min(3)..].fill(end);
     }
 
     // What the rounds answer.
     fn rounds(&self, rt: &impl Print) -> io::Result<()> {
-        let gate = &self.gate[..self.end];
-        let square = &self.square[..self.end];
-        let (e1, e2, e3) = (self.first, self.second, self.third);
+        let [e1, e2, e3, end] = self.ends;
+        let gate = &self.gate[..end];
+        let square = &self.square[..end];
         let number = vuzgari_compare_noise_number(gate, square, e1, e2, e3);
         let sigma = vuzgari_compare_noise_sigma(gate, square, e1, e2, e3);
         let count = vuzgari_compare_noise_rounds(gate, square, e1, e2, e3);
@@ -228,7 +211,8 @@ impl Calls<4> for Bench {
                 return Ok(());
             }
             Call::Windows => {
-                self.windows.add(a, b as usize, f32::of(c), f32::of(d));
+                self.windows
+                    .add(a as usize, b as usize, f32::of(c), f32::of(d));
                 return Ok(());
             }
             Call::Noise => self.image.noise(rt)?,

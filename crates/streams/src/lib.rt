@@ -6,13 +6,15 @@ ghost use Rattle.std.specs.Io.KnownBytes.{Consumes, IsAtEnd};
 
 use arrayvec::ArrayString;
 use std::env::{Env, FillError};
-use std::fmt::Write;
+use std::fmt::{Display, Write};
 use std::io::{Eprint, Error, Print, Read};
 
 // As many bytes as the system's words for an error may take.
 const WORD_BYTES: usize = 300;
 
-// How many bytes stand at the front of the room, and why there are no more where a read failed.
+// How many bytes stand at the front of the room, and why there are no more where a read failed. A count beside the room: a slice
+// of it, lent on, has no value after, of which read_full's promises speak; and a Result would lose what was read before a
+// failure.
 #[derive(Drop)]
 pub struct Filled {
     pub count: usize,
@@ -60,9 +62,9 @@ pub fn has_words(rt: &impl Env) -> bool {
     }
 }
 
-// Says on standard error that a program's stream failed, and why in the system's words, without its number. Where that cannot be
-// written, nothing is said.
-pub fn complain(rt: &impl Eprint, program: &str, stream: &str, why: Error) {
+// Says on standard error that `what` failed, and why in the system's words, without its number. Where that cannot be written,
+// nothing is said.
+pub fn complain(rt: &impl Eprint, what: impl Display + Drop, why: Error) {
     let mut text = ArrayString::<WORD_BYTES>::new();
     let _ = write!(text, "{why}");
     let whole = text.as_str();
@@ -70,10 +72,11 @@ pub fn complain(rt: &impl Eprint, program: &str, stream: &str, why: Error) {
         Some((word, _)) => word,
         None => whole,
     };
-    let _ = eprintln!(rt; "{program}: {stream}: {word}");
+    let _ = eprintln!(rt; "{what}: {word}");
 }
 
 // The bytes on standard input, as far as there is room, of a program that takes no words. Standard error says what is amiss.
+// Only the length of read_full's promises can be said: Stdin has no `remaining`, and the room, lent on, has no value after.
 pub fn read_input<'a>(rt: &HostRuntime, program: &str, usage: &str, room: &'a mut [u8]) -> &'a [u8]
     ensures fits { length result.now ≤ length room.old }
 {
@@ -82,15 +85,15 @@ pub fn read_input<'a>(rt: &HostRuntime, program: &str, usage: &str, room: &'a mu
     }
     let filled = read_full(&mut rt.stdin(), room);
     if let Some(why) = filled.failed {
-        complain(rt, program, "standard input", why);
+        complain(rt, format_args!("{program}: standard input"), why);
     }
     &room[..filled.count]
 }
 
-// Writes a program's output, and after it what is said on standard error.
+// Writes a program's output, and after it what is said on standard error. No clause can name what these streams hold.
 pub fn write_all(rt: &HostRuntime, program: &str, output: &str, remark: &str) {
     if let Err(why) = rt.write_all(output.as_bytes()) {
-        complain(rt, program, "standard output", why);
+        complain(rt, format_args!("{program}: standard output"), why);
     }
     let _ = rt.stderr().write_all(remark.as_bytes());
 }

@@ -112,7 +112,8 @@ impl<'a> Band<'a> {
         k
     }
 
-    // The sum of the admitted ones of the m windows from window a on. Sum and count by a loop each have no jump a window.
+    // The sum of the admitted ones of the m windows from window a on. Sum and count by a loop each have no jump a window. Here
+    // and below a, m and limits are one call's: a struct of them would be made for that call, and taken apart in it.
     fn block_sum(self, a: usize, m: usize, limits: Limits) -> f32
         requires { a + m ≤ length self.gate.now }
         ensures { result ≡ block_sum limits.gate limits.op self.entry.gate.now self.entry.op.now a m }
@@ -165,7 +166,9 @@ impl<'a> Band<'a> {
         eight
     }
 
-    // The mean squared output of the windows whose gate is at most quiet (0 if none), summed in window order.
+    // The mean squared output of the windows whose gate is at most quiet (0 if none), summed in window order. By place, as each
+    // loop here over gates and outputs, or sums and counts: with a `zip`, tried here, the turns (`loop-gate-preserved`) stay
+    // open, which this form proves by itself.
     pub fn mean_quiet(self, quiet: f32) -> f64
         ensures { result ≡ mean_quiet self.entry.op.now self.entry.gate.now quiet }
     {
@@ -184,7 +187,7 @@ impl<'a> Band<'a> {
     }
 }
 
-// The sums and the counts of eight blocks, a lane each.
+// The sums and the counts of eight blocks, a lane each: two columns, as both are added to eight at a time.
 #[derive(Clone, Copy)]
 struct Eight {
     sums: [f32; LANES],

@@ -1,5 +1,5 @@
 -- A line of fields: parted by one space, ended by hex 0A.
-use Rattle.std.specs.Prelude.{ℕ, ◌+◌, cond, List, [], ◌∷◌, ◌++◌, length, get_or, eqb}
+use Rattle.std.specs.Prelude.{ℕ, ◌+◌, ◌%◌, cond, List, [], ◌∷◌, ◌++◌, length, get_or, eqb}
 use Rattle.laws.specs.Lists.{joined}
 use Rattle.text.specs.declared.Field.{Field}
 use Rattle.text.specs.declared.Field.TheVariants.{Decimal, Hex}
@@ -8,7 +8,7 @@ use Rattle.text.specs.Numerals.{decimal_of, hex8_of}
 -- a field's text
 unfoldable pub field_of : Field → List ℕ
 field_of (Decimal n) = decimal_of n
-field_of (Hex x) = hex8_of x
+field_of (Hex x) = hex8_of (x % 4294967296)
 
 -- what stands after field k of n: a space, and after the last one the line's end
 abbrev pub end_of : ℕ → ℕ → ℕ

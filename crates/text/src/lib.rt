@@ -10,11 +10,11 @@ ghost use Rattle.text.specs.Placed.{Fronted};
 use arrayvec::ArrayString;
 use itoa::Buffer;
 
-// A field of a line: in decimal without leading zeros, or as eight hexadecimal digits in capitals.
+// A field of a line: a number in decimal without leading zeros, or its low 32 bits as eight hexadecimal digits in capitals.
 #[derive(Clone, Copy, Debug, PartialEq, Eq)]
 pub enum Field {
     Decimal(u64),
-    Hex(u32),
+    Hex(u64),
 }
 
 // n in decimal, without leading zeros.
@@ -71,7 +71,7 @@ fn push_field<const N: usize>(text: &mut ArrayString<N>, field: Field)
 {
     match field {
         Field::Decimal(n) => push_decimal(text, n),
-        Field::Hex(x) => push_hex8(text, x),
+        Field::Hex(x) => push_hex8(text, (x % 0x1_0000_0000) as u32),
     }
 }
 
@@ -105,12 +105,12 @@ pub fn report<const N: usize>(header: &str, fields: &[Field]) -> ArrayString<N>
     text
 }
 
-// Lays a text over lent bytes from the front on, and answers how long it is. Bytes beyond stay.
-pub fn front(out: &mut [u8], text: &str) -> usize
+// Lays a text, or bytes that are none, over lent bytes from the front on, and answers how long it is. Bytes beyond stay.
+pub fn front(out: &mut [u8], text: &[u8]) -> usize
     requires { length text.now ≤ length out.old }
     ensures { Fronted out.old text.now result out.new }
 {
     let n = text.len();
-    out[..n].copy_from_slice(text.as_bytes());
+    out[..n].copy_from_slice(text);
     n
 }

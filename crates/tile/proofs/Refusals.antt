@@ -3,7 +3,8 @@ use Rattle.std.proofs.Common.{◌≡◌, ℕ, ◌-◌, ◌*◌, ◌≤◌, Bool,
 use Rattle.std.proofs.Math.IntN.{nat_abs}
 use Rattle.limits.specs.Limits.{too_large, other_length, image_number, far_place}
 use Rattle.limits.proofs.Laws.{neither, as_long, not_far}
-use Rattle.numbers.specs.Numbers.{number_of, all, in_order, apart}
+use Rattle.numbers.specs.Numbers.{number_of, all}
+use Rattle.numbers.proofs.Apart.{in_order, apart}
 use Rattle.numbers.specs.declared.Number.{Number}
 use Rattle.numbers.specs.declared.Number.TheVariants.{SideAbove, OtherLength}
 use Rattle.tile.specs.Refusal.{first_of, refusal}

@@ -18,28 +18,33 @@ use numbers::Number;
 // The root of twice pi.
 const ROOT_TWO_PI: f32 = 2.5066283;
 
-// A width, or why there is none.
+// A width, or why there is none. Document 01 names an enum of these two.
 #[derive(Clone, Copy)]
 pub enum EdgeWidth {
     Width(f32),
     Refused(Number),
 }
 
-// 17 rows of 17 samples, each a byte.
+// 17 rows of 17 samples, each a byte. Document 01 names the tile of 289.
 #[derive(Drop)]
 pub struct PixelTile {
     pub samples: [f32; 289],
     pub ghost bytes: { ByteSamples samples },
 }
 
-// Why there is no tile of a view about the centre, where there is none.
+// Why there is no tile of that many pixels about the centre, where there is none.
 #[tactic(auto, using(crate::proofs::Refusals::image_refused), unfolding(crate::specs::Refusal::refusal))]
-fn judge(img: ImageView, centre: [i32; 2]) -> Result<(), Number>
-    ensures { result ≡
-        refusal (length img.entry.pixels.now) img.entry.width img.entry.height img.entry.origin centre }
+fn judge(
+    pixels: usize,
+    width: usize,
+    height: usize,
+    origin: [i32; 2],
+    centre: [i32; 2],
+) -> Result<(), Number>
+    ensures { result ≡ refusal pixels width height origin centre }
 {
-    limits::judge(img.pixels.len(), img.width, img.height)?;
-    if limits::far_place(centre) || limits::far_place(img.origin) {
+    limits::judge(pixels, width, height)?;
+    if limits::far_place(centre) || limits::far_place(origin) {
         return Err(Number::Far);
     }
     Ok(())
@@ -80,27 +85,41 @@ fn lay<F: Fn(usize) -> u8>(samples: &mut [f32; 289], to: usize, pixel: F)
 
 impl PixelTile {
     // The samples of a view about the centre.
-    #[tactic(auto, unfolding(crate::specs::Tile::loaded))]
     pub fn load(img: ImageView, centre: [i32; 2]) -> Result<PixelTile, Number>
         ensures { result_map_both (λ (t : PixelTile). t.samples) (λ why. why) result ≡
             loaded img.entry.pixels.now img.entry.width img.entry.height img.entry.origin centre }
     {
-        judge(img, centre)?;
+        Self::load_at(img.pixels, img.width, img.height, img.origin, centre)
+    }
+
+    // The same on the slice and numbers: document 01 wants thin functions of a view over those on the slice.
+    #[tactic(auto, unfolding(crate::specs::Tile::loaded))]
+    fn load_at(
+        pixels: &[u8],
+        width: usize,
+        height: usize,
+        origin: [i32; 2],
+        centre: [i32; 2],
+    ) -> Result<PixelTile, Number>
+        ensures { result_map_both (λ (t : PixelTile). t.samples) (λ why. why) result ≡
+            loaded pixels.now width height origin centre }
+    {
+        judge(pixels.len(), width, height, origin, centre)?;
         let mut samples = [0.0; 289];
-        if img.pixels.is_empty() {
+        if pixels.is_empty() {
             return Ok(PixelTile { samples });
         }
-        let columns = nearby(centre[0], img.origin[0], img.width - 1);
-        let rows = nearby(centre[1], img.origin[1], img.height - 1);
+        let columns = nearby(centre[0], origin[0], width - 1);
+        let rows = nearby(centre[1], origin[1], height - 1);
         let first = columns[0];
         let last = columns[16];
         for j in 0..17 {
-            let start = rows[j] * img.width;
+            let start = rows[j] * width;
             if last == first + 16 {
                 let at = start + first;
-                lay(&mut samples, j * 17, |k| img.pixels[at + k]);
+                lay(&mut samples, j * 17, |k| pixels[at + k]);
             } else {
-                lay(&mut samples, j * 17, |k| img.pixels[start + columns[k]]);
+                lay(&mut samples, j * 17, |k| pixels[start + columns[k]]);
             }
         }
         Ok(PixelTile { samples })

@@ -13,7 +13,8 @@ use Rattle.pgm.specs.declared.Image.{Image}
 use Rattle.pgm.specs.Read.{header_at, head_of, header_bytes, image_at, front_read, read_of}
 use Rattle.numbers.specs.declared.Number.{Number}
 use Rattle.numbers.specs.declared.Number.TheVariants.{PgmHeader, PgmMaximum, PgmRaster}
-use Rattle.numbers.specs.Numbers.{number_of, apart}
+use Rattle.numbers.specs.Numbers.{number_of}
+use Rattle.numbers.proofs.Apart.{apart}
 use Rattle.pgm.proofs.Heads.{missing_none, head_read, head_missing, head_front}
 use Rattle.pgm.proofs.Judging.{as_whole}
 use Rattle.pgm.proofs.Laws.{is_20, is_21, is_22, no_other, is_image_lem, front_decides}

@@ -163,15 +163,12 @@ fn header(front: &[u8], fields: &mut [u64]) -> Result<(), Number>
     if fields.len() < 4 {
         return Err(Number::ShortSlice);
     }
-    let Some(head) = pgm::header(front) else {
-        return Err(Number::PgmHeader);
-    };
     let Head {
         width: w,
         height: h,
         maximum: m,
         start,
-    } = head;
+    } = pgm::header(front).ok_or(Number::PgmHeader)?;
     let xs = [w as u64, h as u64, m as u64, start as u64];
     show_fields(fields, &xs);
     Ok(())

@@ -10,7 +10,8 @@ ghost use Rattle.window_stats.specs.Passes.{part, weigh_of, Weighable};
 
 use window::WindowStats;
 
-// The window whose first pixel is img[at], its rows being w apart.
+// The window whose first pixel is img[at], its rows being w apart. Here and in `word` image, width and place stay apart: a struct
+// of them would be made anew for each place, and taken apart at once.
 pub fn window(img: &[u8], w: usize, at: usize) -> WindowStats
     requires { at + 3 * w + 4 ≤ length img.now }
     ensures { result ≡ stats_of (pixels_at img.now w at) }

@@ -1,9 +1,15 @@
--- Only an infinity and a NaN are not between the two infinities.
-use Rattle.ieee.proofs.Arms.{finite_below, finite_not}
+-- std's `is_finite` says the same.
+use mathlib.Core.Path.{◌≡◌, refl, ◌∙◌}
+use lib.Ieee.{Float, nan, inf, fin}
+use Rattle.std.specs.Float.{float_is_finite}
+use Rattle.ieee.specs.Order.{finite}
 use Rattle.float.proofs.is_finite32.Goals as goal
 
-pub returns-then-top-x : goal.returns-then-top-x
-returns-then-top-x c = finite_below c.args.x c.if-top-x.true
+same : (x : Float) → float_is_finite x ≡ finite x
+unfolding float_is_finite finite
+same nan = refl
+same (inf s) = refl
+same (fin s m e) = refl
 
-pub returns-else-top-x : goal.returns-else-top-x
-returns-else-top-x c = finite_not c.args.x c.if-top-x.false
+pub returns : goal.returns
+returns c = c.is_finite.ensures.value ∙ same c.args.x

@@ -1,28 +1,22 @@
--- The sum of two i32 fits an i64, so it is v + o, and the test on it names the case of `clamped`.
-use Rattle.std.proofs.Common.{◌≡◌, ℕ, min, true, false, ℤ, pos, negsuc, ◌+ℤ◌, to_z, of_z, w64, refl, ◌∙◌, arith}
+-- The sum of two i32 fits an i64, so it is v + o, and whether it is a usize names the case of `clamped`.
+use Rattle.std.proofs.Common.{◌≡◌, ℕ, ◌<◌, ◌^◌, min, Result, Ok, Err, ℤ, pos, negsuc, ◌+ℤ◌, to_z, of_z, w64, ap, ◌∙◌, arith}
 use Rattle.std.proofs.Math.IntN.{nat_abs}
 use Rattle.std.proofs.lemmas.Int.{ints}
-use borrow.Author.Tests.{ltb-true}
-use lib.Signed.{lt_z}
+use Rattle.std.specs.Int.{FitsUnsignedBits}
+use Rattle.std.specs.Result.{OkIff, result_unwrap_or}
 use Rattle.imageview.specs.Sample.{clamped}
 use Rattle.imageview.proofs.place.Goals as goal
 
-below : (z : ℤ) (most : ℕ) → lt_z z (pos 0) ≡ true → 0 ≡ clamped z most
+nearest : {E : Type 0} (z : ℤ) (most : ℕ) (r : Result ℕ E) → nat_abs z < 2 ^ 64 → OkIff r (FitsUnsignedBits 64 z) (nat_abs z)
+    → min (result_unwrap_or r 0) most ≡ clamped z most
 unfolding clamped
-below (pos n) most t = omega (arith, ltb-true n 0 t)
-below (negsuc n) most t = refl
+nearest (pos n) most (Ok x) h f = ap (λ (m : ℕ). min m most) f.1
+nearest (pos n) most (Err e) h f = absurd (f h)
+nearest (negsuc n) most (Ok x) h f = absurd f.0
+nearest (negsuc n) most (Err e) h f = omega arith
 
-from_zero : (z : ℤ) (most : ℕ) → lt_z z (pos 0) ≡ false → min (nat_abs z) most ≡ clamped z most
-unfolding clamped
-from_zero (pos n) most t = refl
-from_zero (negsuc n) most t = cc
-
-pub returns-then-g-lt0 : goal.returns-then-g-lt0
-returns-then-g-lt0 c =
+pub returns : goal.returns
+returns c =
     let sum : to_z w64 (of_z w64 (to_z w64 (of_z w64 c.from.result) +ℤ to_z w64 (of_z w64 c.from-2.result))) ≡ c.args.v +ℤ c.args.o = omega (arith, ints) in
-    below _ c.args.most (rw sum at c.if-g-lt0.true)
-
-pub returns-else-g-lt0 : goal.returns-else-g-lt0
-returns-else-g-lt0 c =
-    let sum : to_z w64 (of_z w64 (to_z w64 (of_z w64 c.from.result) +ℤ to_z w64 (of_z w64 c.from-2.result))) ≡ c.args.v +ℤ c.args.o = omega (arith, ints) in
-    (rw sum at c.min.ensures) ∙ from_zero _ c.args.most (rw sum at c.if-g-lt0.false)
+    c.min.ensures ∙ ap (λ (n : ℕ). min n c.args.most) c.unwrap_or.ensures
+    ∙ nearest (c.args.v +ℤ c.args.o) c.args.most c.try_from.result (omega (arith, ints)) (rw sum at c.try_from.ensures)

@@ -3,9 +3,9 @@ use Rattle.levels.proofs.Means.{taken, left, done}
 use Rattle.levels.proofs.mean_of.Goals as goal
 use Rattle.levels.proofs.mean_of.Goals.{then-counts, else-counts}
 
-pub loop-m-preserved : goal.loop-m-preserved
-loop-m-preserved g c =
-    let i = c.loop-m.invariant in
+pub loop-v-preserved : goal.loop-v-preserved
+loop-v-preserved g c =
+    let i = c.loop-v.invariant in
     let long = c.requires.whole.long in
     elim c.if-counts.branch [
       | then-counts w ↦ record {
@@ -21,4 +21,4 @@ loop-m-preserved g c =
     ]
 
 pub returns : goal.returns
-returns g c = λ p h. c.mean.ensures ∙ done (c.loop-m.invariant.sums p h) (omega (arith, c.requires.whole.long))
+returns g c = λ p h. c.mean.ensures ∙ done (c.loop-v.invariant.sums p h) (omega (arith, c.requires.whole.long))

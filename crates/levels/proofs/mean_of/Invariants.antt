@@ -4,9 +4,9 @@ use lib.Ieee.{Float}
 use Rattle.levels.proofs.Means.{Summing}
 use Rattle.levels.proofs.mean_of.Given as goal
 
-abbrev pub invariant-loop-m : goal.invariant-loop-m
-invariant-loop-m g l = record {
-  small : l.sum ≤ l.m * 65280;
-  few : l.n ≤ l.m;
-  sums : (p : Float → Bool) → ((v : Float) (r : Bool) → goal.F-post g l.counts v r → r ≡ p v) → Summing p l.values l.sum l.n l.m;
+abbrev pub invariant-loop-v : goal.invariant-loop-v
+invariant-loop-v g l = record {
+  small : l.sum ≤ l.v-index * 65280;
+  few : l.n ≤ l.v-index;
+  sums : (p : Float → Bool) → ((v : Float) (r : Bool) → goal.F-post g l.counts v r → r ≡ p v) → Summing p l.values l.sum l.n l.v-index;
 }

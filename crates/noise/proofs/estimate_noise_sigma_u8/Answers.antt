@@ -1,4 +1,6 @@
 -- `estimate_noise_sigma_u8` meets its contract: refused, it leaves all as it was; else the passes answer.
+use mathlib.Core.Path.{ap, ◌∙◌}
+use Rattle.noise.specs.Call.{refused}
 use Rattle.noise.proofs.Leaving.{ready, leaves_all, clears}
 use Rattle.noise.proofs.estimate_noise_sigma_u8.Goals as goal
 
@@ -17,4 +19,4 @@ returns-in-Ok c =
 pub returns-in-Err : goal.returns-in-Err
 returns-in-Err c =
     let a = c.args in
-    leaves_all a.img.now a.w a.h a.ints.now a.floats.now c.judge.result c.judge.ensures c.in-Err.why c.in-Err.is c.refuse.result c.refuse.ensures
+    leaves_all a.img.now a.w a.h a.ints.now a.floats.now c.judge.result c.judge.ensures c.in-Err.why c.in-Err.is c.refuse.result (c.refuse.ensures ∙ ap refused c.from.ensures)

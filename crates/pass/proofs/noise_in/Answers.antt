@@ -3,4 +3,4 @@ use Rattle.std.proofs.Common.{rules}
 use Rattle.pass.proofs.noise_in.Goals as goal
 
 pub invariant_of-noise_sigma-clause-rise : goal.invariant_of-noise_sigma-clause-rise
-invariant_of-noise_sigma-clause-rise c = search rules
+invariant_of-noise_sigma-clause-rise c = rw c.starts-starts.ensures (search rules)

@@ -1,9 +1,6 @@
 -- A field above 0 has all 53 digits; at a field of 0 the digits move up until the first is a 1.
 use Rattle.roots.proofs.Scaling.{lz_in, low_hi, scaled_low, scaled_high}
-use Rattle.roots.specs.Scaled.{IsScaled}
-use lib.Count.{count_leading_zeros}
-use Prim.Native.Nat.{ℕ, ◌*◌, ◌<◌, ◌-◌, ◌%◌, ◌^◌}
-use mathlib.Core.Path.{sym, subst}
+use Prim.Native.Nat.{◌*◌, ◌<◌, ◌%◌, ◌^◌}
 use native.Mathlib.Omega.{arith}
 use Rattle.roots.proofs.scaled.Goals as goal
 
@@ -12,11 +9,11 @@ overflow_sub-up c = omega (arith, lz_in c.args.a c.requires.1 c.if-field-eq0.tru
 
 pub overflow_mul-result : goal.overflow_mul-result
 overflow_mul-result c =
-    omega (arith, subst (λ (p : ℕ). c.args.a % 2 ^ 52 * p < 2 ^ 53) (sym c.pow2.ensures) (low_hi c.args.a c.requires.1 c.if-field-eq0.true c.requires.0))
+    let small : c.args.a % 2 ^ 52 * c.pow2.result < 2 ^ 53 = rw (c.pow2.ensures, c.from-up.ensures) (low_hi c.args.a c.requires.1 c.if-field-eq0.true c.requires.0) in
+    omega (arith, small)
 
 pub returns-then-field-eq0 : goal.returns-then-field-eq0
-returns-then-field-eq0 c =
-    subst (λ (p : ℕ). IsScaled c.args.a (c.args.a % 2 ^ 52 * p) (52 - (count_leading_zeros 64 (c.args.a % 2 ^ 52) - 11))) (sym c.pow2.ensures) (scaled_low c.args.a c.requires.1 c.if-field-eq0.true c.requires.0)
+returns-then-field-eq0 c = rw (c.pow2.ensures, c.from-up.ensures) (scaled_low c.args.a c.requires.1 c.if-field-eq0.true c.requires.0)
 
 pub returns-else-field-eq0 : goal.returns-else-field-eq0
 returns-else-field-eq0 c = scaled_high c.args.a c.requires.1 (omega (arith, c.if-field-eq0.false))

@@ -11,6 +11,7 @@ use Rattle.ieee.specs.Sqrt.{sqrt, nearest_root}
 use Rattle.ieee.proofs.Reading.{Pattern}
 use Rattle.ieee.proofs.AboveZero.{above_zero, above_plain, above_some, sqrt_nan, sqrt_zero, sqrt_below, sqrt_top}
 use Rattle.ieee.proofs.SqrtPatterns.{sqrt64_pattern, doubled, plain}
+use Rattle.convert.proofs.Nan.{differs, alike, nan64}
 use Rattle.roots.proofs.sqrt64.Goals.{then-v-eq1, else-v-eq1}
 use Rattle.roots.proofs.sqrt64.Goals as goal
 
@@ -22,23 +23,23 @@ rooted x held digits e m q s m_is q_is =
     (subst (λ (v : Float). HasValue v false (digits * 2 ^ e) (2 ^ 1126)) (of_bits-to_bits binary64 x held) s.value)
     q (q_is ∙ ap (λ (m : ℕ). nearest_root (m * 4 ^ 53 / 2 ^ 54)) m_is)
 
+pub returns-then-is_nan : goal.returns-then-is_nan
+returns-then-is_nan c = sqrt_nan binary64 c.args.x (differs c.args.x c.is_nan.ensures.value c.if-is_nan.true)
+
 pub returns-then-x : goal.returns-then-x
-returns-then-x c = sqrt_nan binary64 c.args.x c.if-x.true
+returns-then-x c = sqrt_zero binary64 c.args.x c.if-x.true
 
 pub returns-then-x-2 : goal.returns-then-x-2
-returns-then-x-2 c = sqrt_zero binary64 c.args.x c.if-x-2.true
-
-pub returns-then-x-3 : goal.returns-then-x-3
-returns-then-x-3 c = sqrt_below binary64 c.args.x c.if-x-3.true
+returns-then-x-2 c = nan64 ∙ sqrt_below binary64 c.args.x c.if-x-2.true
 
 pub float_to_bits-b : goal.float_to_bits-b
-float_to_bits-b c = above_plain c.args.x (above_zero binary64 c.args.x c.if-x.false c.if-x-2.false c.if-x-3.false)
+float_to_bits-b c = above_plain c.args.x (above_zero binary64 c.args.x (alike c.args.x c.is_nan.ensures.value c.if-is_nan.false) c.if-x.false c.if-x-2.false)
 
 pub returns-then-b-ge9218868437227405312 : goal.returns-then-b-ge9218868437227405312
-returns-then-b-ge9218868437227405312 c = sqrt_top c.args.x (subst T (sym c.well_formed.0.1) tt) (above_zero binary64 c.args.x c.if-x.false c.if-x-2.false c.if-x-3.false) binary64 c.if-b-ge9218868437227405312.true
+returns-then-b-ge9218868437227405312 c = sqrt_top c.args.x (subst T (sym c.well_formed.0.1) tt) (above_zero binary64 c.args.x (alike c.args.x c.is_nan.ensures.value c.if-is_nan.false) c.if-x.false c.if-x-2.false) binary64 c.if-b-ge9218868437227405312.true
 
 pub scaled-v-requires : goal.scaled-v-requires
-scaled-v-requires c = (above_some c.args.x (subst T (sym c.well_formed.0.1) tt) (above_zero binary64 c.args.x c.if-x.false c.if-x-2.false c.if-x-3.false), c.if-b-ge9218868437227405312.false)
+scaled-v-requires c = (above_some c.args.x (subst T (sym c.well_formed.0.1) tt) (above_zero binary64 c.args.x (alike c.args.x c.is_nan.ensures.value c.if-is_nan.false) c.if-x.false c.if-x-2.false), c.if-b-ge9218868437227405312.false)
 
 pub overflow_add-result-2 : goal.overflow_add-result-2
 overflow_add-result-2 c =

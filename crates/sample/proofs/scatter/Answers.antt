@@ -1,8 +1,10 @@
-use Rattle.std.proofs.Common.{rules, ◌≡◌, ℕ, ◌+◌, ◌≤◌, ◌<◌, List, [], ◌∷◌, Option, Some, None, get_or, set, ℤ, pos, sym, refl, ap, ◌∙◌, subst, arith}
+use Rattle.std.proofs.Common.{rules, ◌≡◌, ℕ, ◌+◌, ◌≤◌, ◌<◌, List, [], ◌∷◌, length, Option, Some, None, get_or, set, ℤ, pos, sym, refl, ap, ◌∙◌, subst, arith}
 use lib.Ieee.{Float}
 use Rattle.laws.proofs.Machine.{held, held_of}
 use Rattle.measure.specs.Columns.{figure_in, figures_in}
-use Rattle.band.specs.Bands.{rail, band_of, kept_band}
+use Rattle.band.specs.Bands.{rail, band_of, kept_band, kept_of}
+use Rattle.band.specs.declared.Sample.{Sample}
+use Rattle.sample.specs.Loops.{Layable}
 use Rattle.sample.specs.Laid.{gate32, square32}
 use Rattle.band.proofs.Counting.{counts, kept_some, kept_none}
 use Rattle.sample.proofs.Scattering.{Scattering, starts, kept_room, place_kept, scatter_start, scatter_hit, scatter_miss, scatter_end}
@@ -22,24 +24,26 @@ unseen : (l : List ℤ) (k : ℕ) {o : Option ℕ} → o ≡ kept_band (band_of 
     → o ≡ None → rail ≤ band_of (get_or l k (pos 0))
 unseen l k e f g = kept_none (band_of (get_or l k (pos 0))) (ap (λ (z : ℤ). kept_band (band_of z)) (sym f) ∙ sym e ∙ g)
 
-pub overflow_add-e1 : goal.overflow_add-e1
-overflow_add-e1 c = omega (arith, kept_room c.args.t c.args.ints.now c.args.s c.args.floats.now c.requires)
+-- what `starts` answers: its last place is how many windows are kept
+kept : {t : ℕ} {l : List ℤ} {s : Sample} {old : List Float} {n : List ℕ} → Layable t l s old
+    → n ≡ 0 ∷ s.b0 ∷ (s.b0 + s.b1) ∷ (s.b0 + s.b1 + s.b2) ∷ (s.b0 + s.b1 + s.b2 + s.b3) ∷ [] → get_or n 4 0 ≡ kept_of (figures_in t l)
+kept {t} {l} {s} {old} r e = ap (λ (n : List ℕ). get_or n 4 0) e ∙ (kept_room t l s old r).0
 
-pub overflow_add-e2 : goal.overflow_add-e2
-overflow_add-e2 c = omega (arith, kept_room c.args.t c.args.ints.now c.args.s c.args.floats.now c.requires)
-
-pub overflow_add-kept : goal.overflow_add-kept
-overflow_add-kept c = omega (arith, kept_room c.args.t c.args.ints.now c.args.s c.args.floats.now c.requires)
-
-pub overflow_add-kept-in-Some : goal.overflow_add-kept-in-Some
-overflow_add-kept-in-Some c = omega (arith, kept_room c.args.t c.args.ints.now c.args.s c.args.floats.now c.requires)
+pub starts-next-requires : goal.starts-next-requires
+starts-next-requires c = let a = c.args in omega (arith, kept_room a.t a.ints.now a.s a.floats.now c.requires)
 
 pub loop-k-init : goal.loop-k-init
 loop-k-init c =
     let a = c.args in
-    let s = a.s in
-    scatter_start a.t a.ints.now a.floats.now (0 ∷ s.b0 ∷ (s.b0 + s.b1) ∷ (s.b0 + s.b1 + s.b2) ∷ []) refl
-    (starts s (figures_in a.t a.ints.now) (counts s (figures_in a.t a.ints.now) c.requires.counted))
+    let fs = figures_in a.t a.ints.now in
+    let e = c.starts-next.ensures in
+    scatter_start a.t a.ints.now a.floats.now c.starts-next.result (omega (arith, ap length e))
+    (λ b h. ap (λ (n : List ℕ). get_or n b 0) e ∙ starts a.s fs (counts a.s fs c.requires.counted) b h)
+
+pub overflow_add-kept : goal.overflow_add-kept
+overflow_add-kept c =
+    let a = c.args in
+    omega (arith, kept c.requires c.starts-next.ensures, kept_room a.t a.ints.now a.s a.floats.now c.requires)
 
 pub lay-requires : goal.lay-requires
 lay-requires c =
@@ -49,7 +53,7 @@ lay-requires c =
     let e = seen a.ints.now c.loop-k.k c.in-Some.b c.band.ensures (held_of (search rules)) c.in-Some.is in (
       c.requires.columns,
       h,
-      omega (arith, kept_room a.t a.ints.now a.s a.floats.now c.requires, place_kept i.gates c.in-Some.b e.1 h e.0, i.long),
+      omega (arith, kept c.requires c.starts-next.ensures, kept_room a.t a.ints.now a.s a.floats.now c.requires, place_kept i.gates c.in-Some.b e.1 h e.0, i.long),
     )
 
 pub overflow_add-next : goal.overflow_add-next
@@ -74,7 +78,7 @@ loop-k-preserved c =
           let e = seen a.ints.now c.loop-k.k w.in-Some.b c.band.ensures (held_of (search rules)) w.in-Some.is in
           let n = get_or c.loop-k.next w.in-Some.b 0 in
           moved
-          (w.floats-is ∙ w.lay.ensures ∙ ap (λ (m : ℕ). set (set c.loop-k.floats n (gate32 f)) (m + 1 + n) (square32 f)) r.0) w.next-is
+          (w.floats-is ∙ w.lay.ensures ∙ ap (λ (m : ℕ). set (set c.loop-k.floats n (gate32 f)) (m + 1 + n) (square32 f)) (kept c.requires c.starts-next.ensures)) w.next-is
           (scatter_hit i h w.in-Some.b e.1 e.0 (omega (arith, r)) refl refl)
       | in_default w ↦ moved w.floats-is w.next-is
           (scatter_miss i h (unseen a.ints.now c.loop-k.k c.band.ensures (held_of (search rules)) w.in_default.is))

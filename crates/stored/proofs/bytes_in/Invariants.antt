@@ -4,6 +4,6 @@ use Rattle.stored.proofs.bytes_in.Given as goal
 
 abbrev pub invariant-loop-k : goal.invariant-loop-k
 invariant-loop-k l = record {
-  long : length l.bytes ≡ 40;
-  written : (i : ℕ) → i < l.k → slice_index l.bytes i ≡ column_byte l.columns i;
+  long : length l.byte-items ≡ 40;
+  written : (i : ℕ) → i < l.k → slice_index l.byte-items i ≡ column_byte l.columns i;
 }

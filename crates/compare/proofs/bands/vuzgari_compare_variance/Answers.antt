@@ -1,8 +1,8 @@
 -- No variance is no number.
-use mathlib.Core.Path.{refl}
+use Rattle.std.proofs.Common.{rules}
 use lib.Ieee.{of_bits}
 use Rattle.compare.proofs.bands.vuzgari_compare_variance.Goals as goal
 
-pub returns-in-None : goal.returns-in-None
+pub returns : goal.returns
 unfolding of_bits
-returns-in-None c = rw (← c.variance.ensures, c.in-None.is) refl
+returns c = rw (← c.variance.ensures) (search rules)

@@ -4,6 +4,6 @@ use Rattle.stored.proofs.Line.columns.Given as goal
 
 abbrev pub invariant-loop-j : goal.invariant-loop-j
 invariant-loop-j g l = record {
-  long : length l.numbers ≡ g.row.N;
-  read : (k : ℕ) → k < l.j → number_at l.self.list.text.now g.row.N l.self.i k ≡ Some (slice_index l.numbers k);
+  long : length l.number-items ≡ g.row.N;
+  read : (k : ℕ) → k < l.j → number_at l.self.list.text.now g.row.N l.self.i k ≡ Some (slice_index l.number-items k);
 }
