@@ -35,9 +35,9 @@ abbrev pub number_in : {A : Type 0} → Result A Number → ℕ
 number_in (Ok x) = 0
 number_in (Err why) = number_of why
 
--- r is the reason with the number, if there is one
+-- r is the reason with the number, or the number where no reason has it
 abbrev pub HasNumber : ℕ → Result Number UnknownNumber → Type 0
-HasNumber n r = MatchResult r (λ why. number_of why ≡ n) (λ _. (why : Number) → number_of why ≡ n → ⊥)
+HasNumber n r = MatchResult r (λ why. number_of why ≡ n) (λ e. (e.0 ≡ n) × ((why : Number) → number_of why ≡ n → ⊥))
 
 -- all of them, in the order of their numbers
 abbrev pub all : List Number

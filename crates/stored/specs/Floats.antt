@@ -62,6 +62,6 @@ place TotalLess64 = 11
 unfoldable pub helper_answer : Helper → ℕ → ℕ → ℕ
 helper_answer h a b = get_or (answers a b) (place h) 0
 
--- r is the helper with the letter, small or capital, if there is one
+-- r is the helper with the letter, small or capital, or the letter where no helper has it
 abbrev pub HasLetter : ℕ → Result Helper UnknownLetter → Type 0
-HasLetter letter r = MatchResult r (λ h. place h ≡ letter % 32) (λ _. 1 ≤ letter % 32 → 12 ≤ letter % 32)
+HasLetter letter r = MatchResult r (λ h. place h ≡ letter % 32) (λ e. (e.0 ≡ letter) × (1 ≤ letter % 32 → 12 ≤ letter % 32))
