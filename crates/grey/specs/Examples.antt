@@ -7,7 +7,7 @@ use Rattle.numbers.specs.declared.Number.TheVariants.{ManyPixels, PgmHeader, Pgm
 use Rattle.pgm.specs.Read.{image_at, take_byte, take_white, take_number, header_of, head_of}
 use Rattle.noise.specs.Refusals.{refusal_of}
 use Rattle.noise.specs.Call.{refused, noise_of}
-use Rattle.grey.specs.declared.TheConstants.{INPUT_BYTES}
+use Rattle.grey.specs.declared.TheConstants.{INPUT_BYTES, REMARK_BYTES}
 use Rattle.grey.specs.Grey.{grey_bytes, grey_parsed, grey_answer, grey_said}
 use Rattle.grey.specs.Remark.{grey_remark, grey_remark_bytes}
 
@@ -44,3 +44,6 @@ room = (refl, refl)
 
 pub input_room : INPUT_BYTES ≡ grey_bytes
 input_room = refl
+
+pub remark_room : REMARK_BYTES ≡ grey_remark_bytes
+remark_room = refl

@@ -9,7 +9,7 @@ use Rattle.text.specs.Line.{field_of, line_of}
 use Rattle.answer.specs.declared.Answer.{Answer}
 use Rattle.numbers.specs.declared.Number.TheVariants.{NotALid, ManyPixels}
 use Rattle.pgm.specs.Read.{image_at}
-use Rattle.lid_bytes.specs.declared.TheConstants.{INPUT_BYTES}
+use Rattle.lid_bytes.specs.declared.TheConstants.{INPUT_BYTES, REPORT_BYTES, REMARK_BYTES}
 use Rattle.lid_bytes.specs.Input.{input_bytes, width_of, height_of, parsed_of}
 use Rattle.lid_bytes.specs.Report.{report_bytes, report_of}
 use Rattle.reasons.specs.Reasons.{reason_at, reason_of, numbered_of}
@@ -34,6 +34,10 @@ sixteen = (refl, refl)
 -- the room for an input
 pub input_room : INPUT_BYTES ≡ input_bytes
 input_room = refl
+
+-- the room for a report, and for a remark
+pub rooms : (REPORT_BYTES ≡ report_bytes) × (REMARK_BYTES ≡ remark_bytes)
+rooms = (refl, refl)
 
 -- ---- reports
 

@@ -118,6 +118,23 @@ impl Helper {
         b'a' + self as u8
     }
 
+    // Its name.
+    pub(crate) fn name(self) -> &'static str {
+        match self {
+            Helper::Sqrt32 => "sqrt32",
+            Helper::Sqrt64 => "sqrt64",
+            Helper::ToF32 => "to_f32",
+            Helper::Floor32 => "floor32",
+            Helper::Abs64 => "abs64",
+            Helper::IsFinite32 => "is_finite32",
+            Helper::Max32 => "max32",
+            Helper::Max64 => "max64",
+            Helper::Min32 => "min32",
+            Helper::TotalLess32 => "total_less32",
+            Helper::TotalLess64 => "total_less64",
+        }
+    }
+
     // What the helper answers, as a pattern.
     #[tactic(auto, unfolding(crate::specs::Floats::helper_answer))]
     pub fn answer(self, a: u64, b: u64) -> u64
@@ -165,19 +182,7 @@ impl TryFrom<u8> for Helper {
 
 impl fmt::Display for Helper {
     fn fmt<W: fmt::Write>(&self, f: &mut fmt::Formatter<W>) -> fmt::Result {
-        f.write_str(match self {
-            Helper::Sqrt32 => "sqrt32",
-            Helper::Sqrt64 => "sqrt64",
-            Helper::ToF32 => "to_f32",
-            Helper::Floor32 => "floor32",
-            Helper::Abs64 => "abs64",
-            Helper::IsFinite32 => "is_finite32",
-            Helper::Max32 => "max32",
-            Helper::Max64 => "max64",
-            Helper::Min32 => "min32",
-            Helper::TotalLess32 => "total_less32",
-            Helper::TotalLess64 => "total_less64",
-        })
+        f.write_str(self.name())
     }
 }
 

@@ -10,10 +10,12 @@ pub mod floats;
 
 ghost use Rattle.std.specs.Prelude.{◌≡◌, ◌+◌, ◌-◌, ◌*◌, ◌<◌, ◌≤◌, ℕ, length, slice_index, MatchOption, IfOk};
 ghost use Rattle.std.specs.Iterator.{at_most};
+ghost use Rattle.std.specs.Option.{option_map};
+ghost use Rattle.stored.specs.Floats.{single, signed};
 ghost use Rattle.stored.specs.Lines.{is_digit, is_letter, digit_value, written, line_bytes, belongs, is_line, agrees_at, hit_at};
 ghost use Rattle.stored.specs.Lines.{hit_count, lines_of, letter_at, number_at, column_byte};
 
-use floats::{Helper, Pattern};
+use floats::{Column, Helper, Pattern};
 use std::fmt::Display;
 use std::io;
 
@@ -74,14 +76,180 @@ pub fn column(text: &[u8], at: usize) -> u64
     n
 }
 
+// Whether c may stand at place k of a line.
+#[tactic(auto, unfolding(crate::specs::Lines::belongs))]
+fn is_placed(columns: u8, k: usize, c: u8) -> bool
+    ensures { result ≡ belongs columns k c }
+{
+    if k == 0 {
+        return is_letter(c);
+    }
+    if k == usize::from(columns) * 17 + 1 {
+        return c == b'\n';
+    }
+    if k % 17 == 1 {
+        return c == b' ';
+    }
+    is_digit(c)
+}
+
+// As many bytes as a line has.
+fn width(columns: u8) -> usize
+    ensures { result ≡ line_bytes columns }
+{
+    usize::from(columns) * 17 + 2
+}
+
+// The place of line i's first byte.
+fn start(text: &[u8], columns: u8, i: usize) -> usize
+    requires { i < lines_of text.now columns }
+    ensures value { result ≡ i * line_bytes columns }
+    ensures inside { result + line_bytes columns ≤ length text.now }
+{
+    let width = width(columns);
+    prove!(i < text.len() / width);
+    i * width
+}
+
+// Whether the line at place at can be read. A loop: the closure of an `all` would need a clause that says again what `is_placed`
+// does.
+#[tactic(auto, unfolding(crate::specs::Lines::readable))]
+fn is_readable(text: &[u8], columns: u8, at: usize) -> bool
+    requires { at + line_bytes columns ≤ length text.now }
+    ensures { result ≡ is_line text.now columns at }
+{
+    let mut good = true;
+    for (k, c) in text[at..at + width(columns)].iter().enumerate() {
+        good = good & is_placed(columns, k, *c);
+    }
+    good
+}
+
+// The number in column j of the line at place at.
+fn number_from(text: &[u8], at: usize, j: usize) -> u64
+    requires { at + j * 17 + 18 ≤ length text.now }
+    ensures { result ≡ written text.now (at + j * 17 + 2) 16 }
+{
+    column(text, at + j * 17 + 2)
+}
+
+// Whether the answer that the line at place at stores is the library's.
+#[tactic(auto, unfolding(crate::specs::Lines::agrees_at))]
+fn agrees(text: &[u8], columns: u8, at: usize) -> bool
+    requires { at + line_bytes columns ≤ length text.now }
+    ensures { result ≡ agrees_at text.now columns at }
+{
+    columns >= 3
+        && is_readable(text, columns, at)
+        && floats::answer(text[at], number_from(text, at, 0), number_from(text, at, 1))
+            == number_from(text, at, 2)
+}
+
+// Whether the line at place at has the letter, which is the lists' own, and agrees or not as `good` says.
+fn hits(text: &[u8], columns: u8, at: usize, letter: u8, good: bool) -> bool
+    requires { at + line_bytes columns ≤ length text.now }
+    ensures { result ≡ hit_at text.now columns at letter good }
+{
+    text[at] == letter && agrees(text, columns, at) == good
+}
+
+// How many lines there are. Here and in the calls below the columns are a number that a caller may learn as it runs; a List has
+// them in its type.
+pub fn lines(text: &[u8], columns: u8) -> usize
+    ensures { result ≡ lines_of text.now columns }
+{
+    text.len() / width(columns)
+}
+
+// The letter of line i, if there is such a line and it can be read.
+#[tactic(auto, unfolding(crate::specs::Lines::letter_at))]
+pub fn letter(text: &[u8], columns: u8, i: usize) -> Option<u8>
+    ensures { result ≡ letter_at text.now columns i }
+{
+    if i >= lines(text, columns) {
+        return None;
+    }
+    let at = start(text, columns, i);
+    is_readable(text, columns, at).then_some(text[at])
+}
+
+// The number in column j of line i, if there is one.
+#[tactic(auto, unfolding(crate::specs::Lines::number_at))]
+pub fn number(text: &[u8], columns: u8, i: usize, j: u8) -> Option<u64>
+    ensures { result ≡ number_at text.now columns i j }
+{
+    if i >= lines(text, columns) || j >= columns {
+        return None;
+    }
+    Some(number_from(text, start(text, columns, i), usize::from(j)))
+}
+
+// The f32 in column j of line i, if there is one.
+pub fn float_in(text: &[u8], columns: u8, i: usize, j: u8) -> Option<f32>
+    ensures { result ≡ option_map single (number_at text.now columns i j) }
+{
+    number(text, columns, i, j).map(f32::of)
+}
+
+// The whole number in column j of line i, if there is one.
+pub fn int_in(text: &[u8], columns: u8, i: usize, j: u8) -> Option<i32>
+    ensures { result ≡ option_map signed (number_at text.now columns i j) }
+{
+    number(text, columns, i, j).map(i32::of)
+}
+
+// How many lines have the letter, which is the lists' own, and agree, or do not, as `good` says.
+#[tactic(auto, unfolding(crate::specs::Lines::hits, crate::specs::Lines::hit_count))]
+pub fn count(text: &[u8], columns: u8, letter: u8, good: bool) -> usize
+    ensures { result ≡ hit_count text.now columns letter good }
+{
+    let mut n = 0;
+    for i in 0..lines(text, columns) {
+        if hits(text, columns, start(text, columns, i), letter, good) {
+            n += 1;
+        }
+    }
+    n
+}
+
+// Writes, after the name, how many lines with the small letter agree and differ, and how many with the capital one.
+pub fn report(
+    rt: &impl Print,
+    name: &str,
+    text: &[u8],
+    columns: u8,
+    small: u8,
+    capital: u8,
+) -> io::Result<()> {
+    print!(rt; "{name}: ")?;
+    report_letter(rt, text, columns, small)?;
+    print!(rt; "; altered: ")?;
+    report_letter(rt, text, columns, capital)?;
+    println!(rt; "")
+}
+
+// The letter is the lists' own, small or capital.
+fn report_letter(rt: &impl Print, text: &[u8], columns: u8, letter: u8) -> io::Result<()> {
+    let agree = count(text, columns, letter, true);
+    let differ = count(text, columns, letter, false);
+    print!(rt; "{agree} agree, {differ} differ")
+}
+
+// Writes how many lines there are, and how many bytes after the last whole one.
+pub fn report_lines(rt: &impl Print, text: &[u8], columns: u8) -> io::Result<()> {
+    let lines = lines(text, columns);
+    let over = text.len() % width(columns);
+    println!(rt; "{lines} lines, {over} bytes over")
+}
+
 // A list's lines, one after the other.
 #[derive(Drop)]
-struct Lines<'a, const N: usize> {
+struct EachLine<'a, const N: usize> {
     list: List<'a, N>,
     next: usize,
 }
 
-impl<'a, const N: usize> Iterator for Lines<'a, N> {
+impl<'a, const N: usize> Iterator for EachLine<'a, N> {
     type Item = Line<'a, N>;
 
     ghost remaining = { λ s. at_most (lines_of s.list.text.now N - s.next) };
@@ -112,18 +280,11 @@ impl<'a, const N: usize> List<'a, N> {
         })
     }
 
-    // As many bytes as a line has.
-    fn width(&self) -> usize
-        ensures { result ≡ line_bytes N }
-    {
-        N * 17 + 2
-    }
-
     // How many lines there are.
     pub fn len(&self) -> usize
         ensures { result ≡ lines_of self.now.text.now N }
     {
-        self.text.len() / self.width()
+        lines(self.text, N as u8)
     }
 
     // Line i, if there is one. An `if`: the closure of a `then` is not told that i is below the length, and a Line holds that.
@@ -138,105 +299,47 @@ impl<'a, const N: usize> List<'a, N> {
     }
 
     // All of them, in order.
-    fn lines(&self) -> Lines<'a, N>
+    fn lines(&self) -> EachLine<'a, N>
         ensures { (result.list ≡ self.now) × (result.next ≡ 0) }
     {
-        Lines {
+        EachLine {
             list: *self,
             next: 0,
         }
     }
 
-    // Whether c may stand at place k of a line.
-    #[tactic(auto, unfolding(crate::specs::Lines::belongs))]
-    fn is_placed(&self, k: usize, c: u8) -> bool
-        ensures { result ≡ belongs N k c }
-    {
-        if k == 0 {
-            return is_letter(c);
-        }
-        if k == N * 17 + 1 {
-            return c == b'\n';
-        }
-        if k % 17 == 1 {
-            return c == b' ';
-        }
-        is_digit(c)
-    }
-
-    // How many lines have the letter, which is the lists' own, and agree, or do not, as `good` says. A loop: the checker refuses
-    // a `filter` over lines, which have a lifetime.
-    #[tactic(auto, unfolding(crate::specs::Lines::hits, crate::specs::Lines::hit_count))]
+    // How many lines have the letter, which is the lists' own, and agree, or do not, as `good` says.
     pub fn count(&self, letter: u8, good: bool) -> usize
         ensures { result ≡ hit_count self.now.text.now N letter good }
     {
-        let mut n = 0;
-        for line in self.lines() {
-            if line.hits(letter, good) {
-                n += 1;
-            }
-        }
-        n
+        count(self.text, N as u8, letter, good)
     }
 
     // Writes, after the helper's name, how many lines with its small letter agree and differ, and how many with the capital one.
     pub fn report(&self, rt: &impl Print, helper: Helper) -> io::Result<()> {
         let letter = helper.letter();
-        print!(rt; "{helper}: ")?;
-        self.report_letter(rt, letter)?;
-        print!(rt; "; altered: ")?;
-        self.report_letter(rt, letter.to_ascii_uppercase())?;
-        println!(rt; "")
-    }
-
-    // The letter is the lists' own, small or capital.
-    fn report_letter(&self, rt: &impl Print, letter: u8) -> io::Result<()> {
-        let agree = self.count(letter, true);
-        let differ = self.count(letter, false);
-        print!(rt; "{agree} agree, {differ} differ")
+        report(
+            rt,
+            helper.name(),
+            self.text,
+            N as u8,
+            letter,
+            letter.to_ascii_uppercase(),
+        )
     }
 
     // Writes how many lines there are, and how many bytes after the last whole one.
     pub fn report_size(&self, rt: &impl Print) -> io::Result<()> {
-        let lines = self.len();
-        let over = self.text.len() % self.width();
-        println!(rt; "{lines} lines, {over} bytes over")
+        report_lines(rt, self.text, N as u8)
     }
 }
 
 impl<'a, const N: usize> Line<'a, N> {
-    // The place of its first byte.
-    fn start(&self) -> usize
-        ensures value { result ≡ self.now.i * line_bytes N }
-        ensures inside { result + line_bytes N ≤ length self.now.list.text.now }
-    {
-        let width = self.list.width();
-        prove!(self.i < self.list.text.len() / width);
-        self.i * width
-    }
-
-    // Whether it can be read. A loop: the closure of an `all` would need a clause that says again what `is_placed` does.
-    #[tactic(auto, unfolding(crate::specs::Lines::readable))]
-    fn is_readable(&self) -> bool
-        ensures { result ≡ is_line self.now.list.text.now N (self.now.i * line_bytes N) }
-    {
-        let at = self.start();
-        let mut good = true;
-        for (k, c) in self.list.text[at..at + self.list.width()]
-            .iter()
-            .enumerate()
-        {
-            good = good & self.list.is_placed(k, *c);
-        }
-        good
-    }
-
     // Its letter, if it can be read.
-    #[tactic(auto, unfolding(crate::specs::Lines::letter_at))]
     pub fn letter(&self) -> Option<u8>
         ensures { result ≡ letter_at self.now.list.text.now N self.now.i }
     {
-        self.is_readable().then_some(self.list.text[self.start()])
+        letter(self.list.text, N as u8, self.i)
     }
 
     // The call that its letter stands for, if it can be read and there is one.
@@ -249,7 +352,8 @@ impl<'a, const N: usize> Line<'a, N> {
         requires { j < N }
         ensures { result ≡ written self.now.list.text.now (self.now.i * line_bytes N + j * 17 + 2) 16 }
     {
-        column(self.list.text, self.start() + j * 17 + 2)
+        let at = start(self.list.text, N as u8, self.i);
+        number_from(self.list.text, at, j)
     }
 
     // The numbers in its columns. The checker refuses the closure that `array::from_fn` would take here.
@@ -262,24 +366,6 @@ impl<'a, const N: usize> Line<'a, N> {
             *number = self.number(j);
         }
         numbers
-    }
-
-    // Whether the answer that it stores is the library's.
-    #[tactic(auto, unfolding(crate::specs::Lines::agrees_at))]
-    fn agrees(&self) -> bool
-        ensures { result ≡ agrees_at self.now.list.text.now N (self.now.i * line_bytes N) }
-    {
-        N >= 3
-            && self.is_readable()
-            && floats::answer(self.list.text[self.start()], self.number(0), self.number(1))
-                == self.number(2)
-    }
-
-    // Whether it has the letter, which is the lists' own, and agrees or not as `good` says.
-    fn hits(&self, letter: u8, good: bool) -> bool
-        ensures { result ≡ hit_at self.now.list.text.now N (self.now.i * line_bytes N) letter good }
-    {
-        self.list.text[self.start()] == letter && self.agrees() == good
     }
 }
 

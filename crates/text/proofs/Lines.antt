@@ -1,5 +1,5 @@
 -- Lines grow field by field, and how long a field can be.
-use mathlib.Core.Path.{◌≡◌, sym, ap, ◌∙◌}
+use mathlib.Core.Path.{◌≡◌, sym, ap, ◌∙◌, subst}
 use mathlib.Core.List.{List, [], ◌∷◌, ◌++◌, append-nil, append_assoc}
 use Prim.Native.Nat.{ℕ, zero, suc, ◌+◌, ◌*◌, ◌≤◌}
 use native.Mathlib.Omega.{arith}
@@ -8,7 +8,7 @@ use lib.ListN.{length, get_or, length-append}
 use Rattle.laws.specs.Lists.{joined}
 use Rattle.text.specs.declared.Field.{Field}
 use Rattle.text.specs.declared.Field.TheVariants.{Decimal, Hex}
-use Rattle.text.specs.Line.{field_of, field_at, end_of}
+use Rattle.text.specs.Line.{field_of, field_at, end_of, line_of}
 use Rattle.text.proofs.Decimals.{decimal_short}
 
 pub field_short : (field : Field) → length (field_of field) ≤ 20
@@ -17,7 +17,7 @@ field_short (Decimal n) = decimal_short n
 field_short (Hex x) = omega arith
 
 -- one row more
-joined_last : (rows : ℕ → List ℕ) (k n : ℕ) → joined rows k (suc n) ≡ joined rows k n ++ rows (k + n)
+pub joined_last : (rows : ℕ → List ℕ) (k n : ℕ) → joined rows k (suc n) ≡ joined rows k n ++ rows (k + n)
 joined_last rows k zero = append-nil (rows k) ∙ ap rows (plus_zero_lem k)
   where
     plus_zero_lem : (a : ℕ) → a ≡ a + 0
@@ -48,6 +48,15 @@ one_more_short fields k h =
       length-append (field_of (get_or fields k (Decimal 0))) (end_of (length fields) k ∷ []),
       field_short (get_or fields k (Decimal 0)),
     )
+
+-- a line's length, by how many fields it has
+pub line_short : (fields : List Field) → length (line_of fields) ≤ 21 * length fields
+unfolding line_of
+line_short fields = some (length fields)
+  where
+    some : (k : ℕ) → length (before fields k) ≤ 21 * k
+    some zero = omega arith
+    some (suc k) = subst (λ (j : ℕ). length (before fields j) ≤ 21 * j) (add-one k) (one_more_short fields k (some k))
 
 pub one_more_pushed : (fields : List Field) (k : ℕ) (start text text' text'' end : List ℕ) → text ≡ start ++ before fields k
     → text' ≡ text ++ field_of (get_or fields k (Decimal 0)) → end ≡ end_of (length fields) k ∷ [] → text'' ≡ text' ++ end

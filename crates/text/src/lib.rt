@@ -1,11 +1,13 @@
 // Numbers and lines of fields as text, appended to a text of fixed room: by `push_str` and not by `write!`, whose contract does
-// not say where it fails, so that no caller could show that all is written.
+// not say where it fails, so that no caller could show that all is written. Or laid over lent bytes, whose length is known when it runs,
+// from a place on, where a header may be any bytes.
 #![tactic(auto)]
 
 ghost use Rattle.std.specs.Prelude.{◌≡◌, ◌+◌, ◌*◌, ◌<◌, ◌≤◌, ◌++◌, ◌∷◌, [], length};
+ghost use Rattle.laws.specs.Lists.{laid};
 ghost use Rattle.text.specs.Numerals.{decimal_of, digit_of, hex4_of, hex8_of};
 ghost use Rattle.text.specs.Line.{field_of, end_of, line_of, under};
-ghost use Rattle.text.specs.Placed.{Fronted};
+ghost use Rattle.text.specs.Placed.{LaidTo, Fronted};
 
 use arrayvec::ArrayString;
 use itoa::Buffer;
@@ -113,4 +115,66 @@ pub fn front(out: &mut [u8], text: &[u8]) -> usize
     let n = text.len();
     out[..n].copy_from_slice(text);
     n
+}
+
+// Lays s over what stands from place `at` on, and answers where it ends. All other bytes stay, here and below.
+pub fn put(out: &mut [u8], at: usize, s: &[u8]) -> usize
+    requires { at + length s.now ≤ length out.old }
+    ensures { LaidTo out.old at s.now result out.new }
+{
+    let end = at + s.len();
+    out[at..end].copy_from_slice(s);
+    end
+}
+
+// The same of n in decimal.
+pub fn put_decimal(out: &mut [u8], at: usize, n: u64) -> usize
+    requires { at + 20 ≤ length out.old }
+    ensures { LaidTo out.old at (decimal_of n) result out.new }
+{
+    let mut text = ArrayString::<20>::new();
+    push_decimal(&mut text, n);
+    put(out, at, text.as_bytes())
+}
+
+// The same of x as eight hexadecimal digits.
+pub fn put_hex8(out: &mut [u8], at: usize, x: u32) -> usize
+    requires { at + 8 ≤ length out.old }
+    ensures { (result ≡ at + 8) × (out.new ≡ laid out.old at (hex8_of x)) }
+{
+    let mut text = ArrayString::<8>::new();
+    push_hex8(&mut text, x);
+    put(out, at, text.as_bytes())
+}
+
+// The same of a field's text.
+fn put_field(out: &mut [u8], at: usize, field: Field) -> usize
+    requires { at + 20 ≤ length out.old }
+    ensures { LaidTo out.old at (field_of field) result out.new }
+{
+    let mut text = ArrayString::<20>::new();
+    push_field(&mut text, field);
+    put(out, at, text.as_bytes())
+}
+
+// The same of the line of these fields.
+pub fn put_line(out: &mut [u8], at: usize, fields: &[Field]) -> usize
+    requires { at + 21 * length fields.now ≤ length out.old }
+    ensures { LaidTo out.old at (line_of fields.now) result out.new }
+{
+    let mut to = at;
+    for (k, field) in fields.iter().enumerate() {
+        to = put_field(out, to, *field);
+        to = put(out, to, end_of(k, fields.len()).as_bytes());
+    }
+    to
+}
+
+// The same of a header, which may be no text, and the line under it, from the front on: answers how long both are.
+pub fn put_report(out: &mut [u8], header: &[u8], fields: &[Field]) -> usize
+    requires { length header.now + 21 * length fields.now ≤ length out.old }
+    ensures { Fronted out.old (under header.now fields.now) result out.new }
+{
+    let to = put(out, 0, header);
+    put_line(out, to, fields)
 }

@@ -1,7 +1,7 @@
 use Rattle.std.proofs.Common.{◌≡◌}
 use Rattle.stored.specs.Lines.{readable}
-use Rattle.stored.proofs.Line.is_readable.Given as goal
+use Rattle.stored.proofs.is_readable.Given as goal
 
 -- good says whether the k bytes seen so far stand where they may
 abbrev pub invariant-loop-k : goal.invariant-loop-k
-invariant-loop-k g l = l.good ≡ readable l.self.list.text.now g.row.N l.at l.k
+invariant-loop-k l = l.good ≡ readable l.text l.columns l.at l.k
