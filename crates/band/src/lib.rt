@@ -5,6 +5,9 @@ ghost use Rattle.std.specs.Prelude.{◌≡◌, [], ◌∷◌, ◌+◌, ◌<◌, 
 ghost use Rattle.measure.specs.Columns.{figures_in};
 ghost use Rattle.band.specs.Bands.{band_of, kept_band, sample_of};
 
+// The band that `count` takes for windows near the rails.
+const RAIL: usize = 4;
+
 // How many windows each intensity band has, by pixel sum: below 1,024, 2,048, 3,072 and above; and how many are near the rails
 // and dropped. They are fields and no array: document 01 names the answer's five counts so, and every definition over the count
 // of a band would index the array.
@@ -50,14 +53,15 @@ pub fn count(ints: &[i32], t: usize) -> Sample
     let mut b2 = 0;
     let mut b3 = 0;
     let mut rail = 0;
-    // Five sums without a jump, so that several windows are counted by one instruction.
+    // Five sums without a jump, so that several windows are counted by one instruction. A window near the rails is of a fifth band
+    // here, since two Options are compared by a jump.
     for sum in &ints[..t] {
-        let b = band(*sum);
-        b0 += usize::from(b == Some(0));
-        b1 += usize::from(b == Some(1));
-        b2 += usize::from(b == Some(2));
-        b3 += usize::from(b == Some(3));
-        rail += usize::from(b == None);
+        let b = band(*sum).unwrap_or(RAIL);
+        b0 += usize::from(b == 0);
+        b1 += usize::from(b == 1);
+        b2 += usize::from(b == 2);
+        b3 += usize::from(b == 3);
+        rail += usize::from(b == RAIL);
     }
     Sample {
         b0,

@@ -83,6 +83,16 @@ root_is {pixels} {windows} r g h low high =
     })
     (step_is pixels windows h)
 
+-- few pixels: the first step reaches them
+pub one_is : {pixels windows : ℕ} → 1 ≤ windows → pixels ≤ windows → 1 ≡ step_of pixels windows
+one_is {pixels} {windows} h e =
+    step_unique
+    (record { some = omega arith; reaches = omega (arith, e); least = λ t a b. absurd (none t a b) })
+    (step_is pixels windows h)
+  where
+    none : (t : ℕ) → 1 ≤ t → t < 1 → ⊥
+    none t a b = omega arith
+
 -- ---- of the sides that a pass takes
 
 pub few : (w h : ℕ) → Sides w h → w * h ≤ 268435456

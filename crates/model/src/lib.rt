@@ -3,7 +3,7 @@
 
 ghost use Rattle.std.specs.Prelude.{◌≡◌, Ok, Err, MatchResult, IfOk, length, take};
 ghost use Rattle.knots.specs.Places.{place, value_at};
-ghost use Rattle.model.specs.Knots.{knots_judged, at_of};
+ghost use Rattle.model.specs.Knots.{table, knots_judged, at_of};
 ghost use Rattle.model.specs.Systematic.{uniform_variance, about, systematic};
 ghost use Rattle.model.specs.Model.{model_of};
 
@@ -82,45 +82,55 @@ fn at_knots(knots: Table<'_>, width: Option<f32>) -> GainResidual
     }
 }
 
-impl SystematicModel {
-    // The counted knots, where nothing refuses them.
-    #[tactic(auto, using(crate::proofs::Refusals::no_knot, crate::proofs::Refusals::many_knots))]
-    fn knots(&self) -> Result<Table<'_>, Number>
-        ensures judged { MatchResult result (λ t. Ok tt ≡ knots_judged self.now) (λ why. Err why ≡ knots_judged self.now) }
-        ensures widths { IfOk result (λ t. t.widths.now ≡ take self.now.count self.now.widths) }
-        ensures gains { IfOk result (λ t. t.gains.now ≡ take self.now.count self.now.gains) }
-        ensures residuals { IfOk result (λ t. t.residuals.now ≡ take self.now.count self.now.residuals) }
-        ensures counted { IfOk result (λ t. length t.widths.now ≡ self.now.count) }
-    {
-        let n = self.count;
-        if n == 0 {
-            return Err(Number::Knots);
-        }
-        if n > 16 {
-            return Err(Number::Knots);
-        }
-        let widths = &self.widths[..n];
-        let gains = &self.gains[..n];
-        let residuals = &self.residuals[..n];
-        if knots::rises_in_range(widths, gains, residuals) & ranges::up_to::<1000>(self.floor) {
-            return Ok(Table {
-                widths,
-                gains,
-                residuals,
-            });
-        }
-        if knots::rises(widths) {
-            Err(Number::FloatRange)
-        } else {
-            Err(Number::Knots)
-        }
+// The counted knots, where nothing refuses them. They are lent from columns of the caller's own: a read from the struct itself,
+// which the caller was handed by value, waits for that copy.
+#[tactic(auto, using(crate::proofs::Refusals::no_knot, crate::proofs::Refusals::many_knots))]
+fn counted<'a>(
+    widths: &'a [f32; 16],
+    gains: &'a [f32; 16],
+    residuals: &'a [f32; 16],
+    count: usize,
+    floor: f32,
+) -> Result<Table<'a>, Number>
+    ensures judged { MatchResult result
+        (λ t. Ok tt ≡ knots_judged (table count floor widths.now gains.now residuals.now))
+        (λ why. Err why ≡ knots_judged (table count floor widths.now gains.now residuals.now)) }
+    ensures widths { IfOk result (λ t. t.widths.now ≡ take count widths.now) }
+    ensures gains { IfOk result (λ t. t.gains.now ≡ take count gains.now) }
+    ensures residuals { IfOk result (λ t. t.residuals.now ≡ take count residuals.now) }
+    ensures counted { IfOk result (λ t. length t.widths.now ≡ count) }
+{
+    if count == 0 {
+        return Err(Number::Knots);
     }
+    if count > 16 {
+        return Err(Number::Knots);
+    }
+    let t = Table {
+        widths: &widths[..count],
+        gains: &gains[..count],
+        residuals: &residuals[..count],
+    };
+    if knots::rises_in_range(t.widths, t.gains, t.residuals) & ranges::up_to::<1000>(floor) {
+        return Ok(t);
+    }
+    if knots::rises(t.widths) {
+        Err(Number::FloatRange)
+    } else {
+        Err(Number::Knots)
+    }
+}
 
+impl SystematicModel {
     // Gain and residual at an edge width.
     pub fn at(self, width: Option<f32>) -> Result<GainResidual, Number>
         ensures { result ≡ at_of self width }
     {
-        Ok(at_knots(self.knots()?, width))
+        let widths = self.widths;
+        let gains = self.gains;
+        let residuals = self.residuals;
+        let knots = counted(&widths, &gains, &residuals, self.count, self.floor)?;
+        Ok(at_knots(knots, width))
     }
 
     // The covariance model of an estimate with noise term `noise`, at `offset` px from the centre of its fit window on a
@@ -134,7 +144,11 @@ impl SystematicModel {
     ) -> Result<CovarianceModel, Number>
         ensures { result ≡ model_of self noise offset width grid }
     {
-        let at = at_knots(self.knots()?, width);
+        let widths = self.widths;
+        let gains = self.gains;
+        let residuals = self.residuals;
+        let knots = counted(&widths, &gains, &residuals, self.count, self.floor)?;
+        let at = at_knots(knots, width);
         if !(ranges::all_within(noise)
             & ranges::both_within(offset)
             & ranges::up_to::<1000>(grid))

@@ -207,7 +207,8 @@ impl Calls<4> for Bench {
                 return Ok(());
             }
             Call::Bands => {
-                self.windows = Windows::new();
+                // What lies past the ends is never read.
+                self.windows.ends = [0; 4];
                 return Ok(());
             }
             Call::Windows => {
