@@ -1,6 +1,6 @@
 // Numbers and lines of fields as text, appended to a text of fixed room: by `push_str` and not by `write!`, whose contract does
-// not say where it fails, so that no caller could show that all is written. Or laid over lent bytes, whose length is known when it runs,
-// from a place on, where a header may be any bytes.
+// not say where it fails, so that no caller could show that all is written. Or laid over lent bytes, of any length, from a place
+// on, where a header may be any bytes.
 #![tactic(auto)]
 
 ghost use Rattle.std.specs.Prelude.{◌≡◌, ◌+◌, ◌*◌, ◌<◌, ◌≤◌, ◌++◌, ◌∷◌, [], length};
